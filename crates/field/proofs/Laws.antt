@@ -9,7 +9,7 @@ use native.Mathlib.Omega.{arith}
 use lib.ListN.{getD}
 use Rattle.field.specs.Field.{_⊕_, mul, power, inv, coef}
 use Rattle.field.proofs.Xor.{⊕-bits}
-use Rattle.field.proofs.Product.{mul-lt, mul-zero-l, mul-zero-r, mul-low-l, mul-low-r, mul-one-l}
+use Rattle.field.proofs.Product.{mul-lt, mul-zero-l, mul-zero-r, mul-low-l, mul-low-r, mul-one-l, mul-one-low}
 use Rattle.field.proofs.Rules.{logs, power-zero, power-suc, doubles, doubles-mul, two-lt, two-mul, two-add, two-255, two-round, two-mod, logs-at}
 
 -- an element is 0 or a power of 2
@@ -56,6 +56,10 @@ mul-assoc a b c =
 
 pub mul-one-r : (a : ℕ) → a < 256 → mul a 1 ≡ a
 mul-one-r a h = mul-comm a 1 ∙ mul-one-l a h
+
+-- what is zero times 1 is zero times anything
+pub mul-vanish : (a x : ℕ) → mul a 1 ≡ 0 → mul a x ≡ 0
+mul-vanish a x e = sym (mul-low-l a x) ∙ ap (λ (y : ℕ). mul y x) (sym (mul-one-low a) ∙ mul-comm 1 a ∙ e) ∙ mul-zero-l x
 
 pub mul-left : (a b c : ℕ) → mul a (mul b c) ≡ mul b (mul a c)
 mul-left a b c = sym (mul-assoc a b c) ∙ ap (λ (x : ℕ). mul x c) (mul-comm a b) ∙ mul-assoc b a c

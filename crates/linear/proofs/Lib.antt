@@ -1,0 +1,14 @@
+pub mod Pigeon
+pub mod Sets
+pub mod Sums
+pub mod Combinations
+pub mod Independence
+pub mod Reduction
+pub mod Choice
+pub mod Data
+pub mod Existence
+pub mod Ranks
+pub mod Frames
+pub mod Vectors
+pub mod Taking
+pub mod Answers

@@ -1,0 +1,9 @@
+pub mod Sets
+pub mod Sums
+pub mod Combinations
+pub mod Greedy
+pub mod Rank
+pub mod Blocks
+pub mod Reduction
+pub mod Solved
+pub mod Slots
