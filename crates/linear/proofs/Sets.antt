@@ -155,6 +155,14 @@ module _ (T : ℕ → Bool) (q : ℕ) where
       at (yes h) = place T q k h .is
       at (no h) = absurd (h l)
 
+  pub nth-at : (k : ℕ) → k < count T q → count T (nth T q k) ≡ k
+  unfolding nth nth-by
+  nth-at k l = at (decLt k (count T q))
+    where
+      at : (d : Dec (k < count T q)) → count T (nth-by T q k d) ≡ k
+      at (yes h) = place T q k h .at
+      at (no h) = absurd (h l)
+
   pub nth-count : (s : ℕ) → s < q → T s ≡ true → nth T q (count T s) ≡ s
   unfolding nth nth-by
   nth-count s l e = at (decLt (count T s) (count T q))
