@@ -12,3 +12,4 @@ pub mod Frames
 pub mod Vectors
 pub mod Taking
 pub mod Answers
+pub mod Agreement
