@@ -1,13 +1,19 @@
 -- Proved: only what stands in the frame counts. Matrices that agree on the blocks below n and the columns below w, orders that agree on the places
 -- below m and targets that agree on the columns below w have the same combinations, the same choice and the same plan.
-use mathlib.Core.Path.{_≡_, refl, sym, ap, _∙_}
+use mathlib.Core.Path.{_≡_, refl, sym, ap, ap₂, _∙_}
 use mathlib.Core.Bool.{Bool}
-use Prim.Native.Nat.{ℕ, suc, _<_}
+use Prim.Native.Nat.{ℕ, zero, suc, _<_}
 use native.Mathlib.Omega.{arith}
 use Rattle.linear.specs.Sets.{insert}
 use Rattle.linear.specs.Combinations.{comb, Combo}
 use Rattle.linear.specs.Greedy.{visited, Kept, begin, keeps, skips, IsPlan}
 use Rattle.linear.proofs.Combinations.{comb-rows, combo-cong}
+
+-- orders that agree below m visit the same blocks
+pub visited-agree : {order other : ℕ → ℕ} (m : ℕ) → ((p : ℕ) → p < m → order p ≡ other p) → visited order m ≡ visited other m
+unfolding visited
+visited-agree zero h = refl
+visited-agree (suc m) h = ap₂ insert (h m (omega arith)) (visited-agree m (λ p l. h p (omega arith)))
 
 module _ (n w : ℕ) {R Q : ℕ → ℕ → ℕ} (same : (s i : ℕ) → s < n → i < w → Q s i ≡ R s i) where
   pub combo-agree : {S : ℕ → Bool} {v : ℕ → ℕ} → Combo n w R S v → Combo n w Q S v
