@@ -60,6 +60,16 @@ count-le S T (suc n) h = at (S n) (T n) (h n (omega arith)) (count-le S T n (λ 
     at true true k i = omega arith
     at true false k i = in-and-out refl (k refl)
 
+-- there are at most n below n
+pub count-most : (S : ℕ → Bool) (n : ℕ) → count S n ≤ n
+unfolding count
+count-most S zero = omega arith
+count-most S (suc n) = at (S n) (count-most S n)
+  where
+    at : (t : Bool) → count S n ≤ n → count S n + bit t ≤ suc n
+    at true h = omega arith
+    at false h = omega arith
+
 -- a block more
 pub count-insert : (b : ℕ) (S : ℕ → Bool) (n : ℕ) → b < n → S b ≡ false → count (insert b S) n ≡ suc (count S n)
 unfolding count
