@@ -1,0 +1,121 @@
+-- Proved: what the functions over one group ask holds of every group of a given layout, and what they answer is what the layout's definitions say.
+use mathlib.Core.Path.{_≡_, refl, sym, _∙_, ap, ap₂}
+use mathlib.Core.Bool.{true, false, _&&_}
+use Prim.Native.Nat.{ℕ, _+_, _<_, _≤_}
+use native.Mathlib.Numerals.{add-one}
+use native.Mathlib.Omega.{arith}
+use borrow.Author.Tests.{lt-ltb, le-ltb}
+use Rattle.field.specs.Field.{coef}
+use Rattle.linear.proofs.Sums.{put-same, put-other}
+use Rattle.note.specs.Note.{groupAt}
+use Rattle.note.specs.declared.Group.{Group}
+use Rattle.note.specs.Given.{Given}
+use Rattle.note.specs.Facts.{Proper}
+use Rattle.note.specs.declared.Layout.{Layout}
+use Rattle.note.proofs.Facts.{given-proper}
+use Rattle.rows.specs.Rows.{blocks, among, owns, homeBelow, home, inside, part, rowNumber, row}
+use Rattle.rows.specs.Visits.{holds, meetBelow, step}
+use Rattle.rows.specs.Inner.{ownsIn, rowIn, entryIn, Fit, Homed}
+use Rattle.rows.proofs.Homes.{home-at, home-before, home-below, home-redundant, datas-within, row-number-lt}
+use Rattle.rows.proofs.Walks.{meet-at, meet-before}
+
+-- ---- one group more
+
+owns-in : (l : Layout) (x b : ℕ) → owns l x b ≡ ownsIn (groupAt l x) (l .k) b
+unfolding owns ownsIn
+owns-in l x b = refl
+
+pub home-none : (l : Layout) (b : ℕ) → 0 ≡ homeBelow l b 0
+unfolding homeBelow
+home-none l b = refl
+
+pub home-yes : (l : Layout) (b x : ℕ) → ownsIn (groupAt l x) (l .k) b ≡ true → x ≡ homeBelow l b (x + 1)
+home-yes l b x e = sym (ap (homeBelow l b) (add-one x) ∙ home-at l b x (owns-in l x b ∙ e))
+
+pub home-no : (l : Layout) (b x : ℕ) → ownsIn (groupAt l x) (l .k) b ≡ false → homeBelow l b x ≡ homeBelow l b (x + 1)
+home-no l b x e = sym (ap (homeBelow l b) (add-one x) ∙ home-before l b x (owns-in l x b ∙ e))
+
+pub meet-none : (l : Layout) (x y : ℕ) → 0 ≡ meetBelow l x y 0
+unfolding meetBelow
+meet-none l x y = refl
+
+pub meet-yes : (l : Layout) (x y g : ℕ) → (among g (groupAt l g .size) x && among g (groupAt l g .size) y) ≡ true → g ≡ meetBelow l x y (g + 1)
+unfolding holds
+meet-yes l x y g e = sym (ap (meetBelow l x y) (add-one g) ∙ meet-at l x y g e)
+
+pub meet-no : (l : Layout) (x y g : ℕ) → (among g (groupAt l g .size) x && among g (groupAt l g .size) y) ≡ false
+    → meetBelow l x y g ≡ meetBelow l x y (g + 1)
+unfolding holds
+meet-no l x y g e = sym (ap (meetBelow l x y) (add-one g) ∙ meet-before l x y g e)
+
+-- the step, from the homes of both blocks
+pub step-is : (l : Layout) (b s x y z : ℕ) → x ≡ home l b → y ≡ home l s → z ≡ meetBelow l x y (l .groups) → z ≡ step l b s
+unfolding step
+step-is l b s x y z p q r = r ∙ ap₂ (λ (u v : ℕ). meetBelow l u v (l .groups)) p q
+
+-- ---- the group of a block
+
+row-in : (l : Layout) (b i : ℕ) → entryIn (groupAt l (home l b)) (l .k) (blocks l) b i ≡ row l b i
+unfolding entryIn row rowNumber inside part
+row-in l b i = refl
+
+pub row-entry : (l : Layout) (x b i : ℕ) → x ≡ home l b → entryIn (groupAt l x) (l .k) (blocks l) b i ≡ row l b i
+row-entry l x b i e = rw e (row-in l b i)
+
+module _ (g : Group) (k n b i : ℕ) where
+  pub entry-one : b < k → i ≡ b → 1 ≡ entryIn g k n b i
+  unfolding entryIn
+  entry-one h e = rw (lt-ltb b k h, e) (sym (put-same b 1 (λ _. 0)))
+
+  pub entry-zero : b < k → (i ≡ b → ⊥) → 0 ≡ entryIn g k n b i
+  unfolding entryIn
+  entry-zero h e = rw (lt-ltb b k h) (sym (put-other b 1 (λ _. 0) i e))
+
+  pub entry-past : k ≤ b → n ≤ b → 0 ≡ entryIn g k n b i
+  unfolding entryIn
+  entry-past h o = rw (le-ltb b k h, le-ltb b n o)
+
+  pub entry-in : k ≤ b → b < n → among (g .first) (g .count) i ≡ true → coef (rowIn g k b) i ≡ entryIn g k n b i
+  unfolding entryIn part
+  entry-in h o e = rw (le-ltb b k h, lt-ltb b n o, e)
+
+  pub entry-out : k ≤ b → b < n → among (g .first) (g .count) i ≡ false → 0 ≡ entryIn g k n b i
+  unfolding entryIn part
+  entry-out h o e = rw (le-ltb b k h, lt-ltb b n o, e)
+
+module _ (l : Layout) (given : Given l) where
+  proper : Proper l
+  proper = given-proper l given
+
+  pub few-groups : l .groups ≤ 16
+  few-groups = proper .groups
+
+  pub few-blocks : blocks l ≤ 48
+  few-blocks = proper .n
+
+  pub size-fits : (x : ℕ) → x < l .groups → x + groupAt l x .size ≤ 16
+  size-fits x h = omega (arith, proper .each x h .inner, proper .groups)
+
+  pub fits : (x : ℕ) → x < l .groups → Fit (groupAt l x) (l .k)
+  fits x h =
+      let q = proper .each x h in
+      record {
+        datas = omega (arith, datas-within l given x h, proper .k);
+        inner = omega (arith, q .datas, proper .k);
+        redundants = omega (arith, q .redundants, proper .n);
+      }
+
+  home-homed : (b : ℕ) → Homed (groupAt l (home l b)) (l .k) (blocks l) b
+  unfolding rowNumber
+  home-homed b =
+      record {
+        fit = fits (home l b) (home-below l given b);
+        from = λ h k. home-redundant l given b h k .0;
+        below = λ h k. row-number-lt l given b h k;
+      }
+
+  pub homed : (x b : ℕ) → x ≡ home l b → Homed (groupAt l x) (l .k) (blocks l) b
+  homed x b e = rw e (home-homed b)
+
+  pub home-fits : (x b : ℕ) → x ≡ home l b → x < 16
+  home-fits x b e = omega (arith, home-below l given b, proper .groups)

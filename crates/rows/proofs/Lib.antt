@@ -1,0 +1,11 @@
+pub mod Ranges
+pub mod Homes
+pub mod Walks
+pub mod Parts
+pub mod Lists
+pub mod Orders
+pub mod Groups
+pub mod Pushes
+pub mod Stores
+pub mod Answers
+pub mod Worked

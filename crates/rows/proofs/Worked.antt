@@ -1,0 +1,29 @@
+-- Proved: the layout of document 01, "A depot pair worked through", computed from the definitions: its blocks' rows as marked P, and the order in
+-- which the plan of block 0 visits the survivors where block 0 is lost.
+use Prim.Native.Nat.{ℕ}
+use mathlib.Core.Path.{_≡_, refl}
+use mathlib.Core.List.{[], _∷_, map}
+use lib.Dec.{eqb}
+use Rattle.field.specs.Field.{_⊕_, double, mulBits, mul, power, inv, coef}
+use Rattle.linear.specs.Sums.{put}
+use Rattle.note.specs.declared.Layout.{Layout}
+use Rattle.note.specs.Tree.{leaf, branch, pair, over, overIn, notesIn, datas, datasIn, redundants, redundantsIn, size, sizeIn, groupsOf, groupsIn, layoutOf}
+use Rattle.rows.specs.Rows.{blocks, among, owns, homeBelow, home, inside, part, rowNumber, row}
+use Rattle.rows.specs.Visits.{holds, meetBelow, step, atStep, visitsBelow, visits}
+
+-- two leaf groups of two data blocks and one redundant block each, and one redundant block over both
+unfoldable pub depot : Layout
+depot = layoutOf (branch 1 (pair (leaf 1 2) (leaf 1 2)))
+
+pub depot-blocks : (depot .k ≡ 4) × (blocks depot ≡ 7)
+unfolding depot layoutOf datas redundants over overIn
+depot-blocks = (refl, refl)
+
+pub depot-rows : map (λ (b : ℕ). map (row depot b) (0 ∷ 1 ∷ 2 ∷ 3 ∷ [])) (4 ∷ 5 ∷ 6 ∷ [])
+    ≡ (27 ∷ 84 ∷ 161 ∷ 29 ∷ []) ∷ (84 ∷ 27 ∷ 0 ∷ 0 ∷ []) ∷ (0 ∷ 0 ∷ 29 ∷ 161 ∷ []) ∷ []
+unfolding row part inside rowNumber home homeBelow owns among put coef inv power mul mulBits double _⊕_ depot layoutOf groupsOf groupsIn datas datasIn redundants redundantsIn size sizeIn notesIn over overIn
+depot-rows = refl
+
+pub depot-visits : visits depot (λ s. eqb s 0) 0 ≡ 1 ∷ 5 ∷ 2 ∷ 3 ∷ 4 ∷ 6 ∷ []
+unfolding visits visitsBelow atStep step meetBelow holds home homeBelow owns among depot layoutOf groupsOf groupsIn datas datasIn redundants redundantsIn size sizeIn notesIn over overIn
+depot-visits = refl
