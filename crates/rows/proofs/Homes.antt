@@ -108,7 +108,7 @@ module _ (l : Layout) (given : Given l) where
   proper = given-proper l given
 
   -- a group's own data blocks end where the next group's begin
-  datas-next : (x : ℕ) → x < l .groups → groupAt l x .first + groupAt l x .d ≡ datasBefore l (suc x)
+  pub datas-next : (x : ℕ) → x < l .groups → groupAt l x .first + groupAt l x .d ≡ datasBefore l (suc x)
   datas-next x h =
       omega (arith, proper .each x h .first, sum-step (λ g. g .d) (l .list) x (omega (arith, proper .full, proper .groups)))
 

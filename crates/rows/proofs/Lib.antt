@@ -2,6 +2,7 @@ pub mod Ranges
 pub mod Homes
 pub mod Walks
 pub mod Parts
+pub mod Members
 pub mod Lists
 pub mod Orders
 pub mod Groups

@@ -30,14 +30,14 @@ use Rattle.rows.proofs.Walks.{holds-yes, holds-in}
 -- "parts of one row over disjoint groups add up to that row over their union"
 pub split : (j : ℕ) (S T : ℕ → Bool) → Disjoint S T → (i : ℕ) → part j (union S T) i ≡ part j S i ⊕ part j T i
 unfolding part union
-split j S T apart i = at (S i) (T i) (apart i)
+split j S T disjoint i = at (S i) (T i) (disjoint .apart i)
   where
     at : (s t : Bool) → (s ≡ true → t ≡ false) → pick (s || t) (coef j i) 0 ≡ pick s (coef j i) 0 ⊕ pick t (coef j i) 0
     at true true d = in-and-out refl (d refl)
     at true false d = sym (⊕-zero-r (coef j i))
     at false t d = sym (⊕-zero-l (pick t (coef j i) 0))
 
-part-out : (j : ℕ) (S : ℕ → Bool) (i : ℕ) → S i ≡ false → part j S i ≡ 0
+pub part-out : (j : ℕ) (S : ℕ → Bool) (i : ℕ) → S i ≡ false → part j S i ≡ 0
 unfolding part
 part-out j S i e = rw e
 
@@ -49,11 +49,11 @@ unions-out (suc m) G i h = rw (unions-out m G i (λ x k. h x (omega arith)), h m
 
 -- a set that meets none of the first m does not meet their union
 unions-disjoint : (m : ℕ) (G : ℕ → ℕ → Bool) (T : ℕ → Bool) → ((x : ℕ) → x < m → Disjoint T (G x)) → Disjoint (unions m G) T
-unions-disjoint m G T h i o = at (T i) refl
+unions-disjoint m G T h = record { apart = λ i o. at i o (T i) refl }
   where
-    at : (t : Bool) → T i ≡ t → T i ≡ false
-    at false e = e
-    at true e = in-and-out o (unions-out m G i (λ x k. h x k i e))
+    at : (i : ℕ) → unions m G i ≡ true → (t : Bool) → T i ≡ t → T i ≡ false
+    at i o false e = e
+    at i o true e = in-and-out o (unions-out m G i (λ x k. h x k .apart i e))
 
 -- the same of many sets, no two of which meet
 pub split-many : (j m : ℕ) (G : ℕ → ℕ → Bool) → ((x y : ℕ) → x < m → y < m → (x ≡ y → ⊥) → Disjoint (G x) (G y)) → (i : ℕ)
@@ -127,16 +127,12 @@ module _ (l : Layout) (given : Given l) where
   -- no data block is inside both
   pub apart-disjoint : (x y : ℕ) → x < l .groups → y < l .groups → Apart l x y → Disjoint (inside l x) (inside l y)
   unfolding inside
-  apart-disjoint x y h k a i e = at (decLt y x)
+  apart-disjoint x y h k a = record { apart = λ i e. at i (among-in (groupAt l x .first) (groupAt l x .count) i e) (decLt y x) }
     where
-      in-x : (groupAt l x .first ≤ i) × (i < groupAt l x .first + groupAt l x .count)
-      in-x = among-in (groupAt l x .first) (groupAt l x .count) i e
-
-      at : Dec (y < x) → among (groupAt l y .first) (groupAt l y .count) i ≡ false
-      at (yes d) =
-          among-over _ _ i (omega (arith, in-x, apart-datas l proper y x k h (apart-after y x k h (omega arith) (a .to))))
-      at (no d) =
-          among-under _ _ i (omega (arith, in-x, apart-datas l proper x y h k (apart-after x y h k (omega arith) (a .from))))
+      at : (i : ℕ) → (groupAt l x .first ≤ i) × (i < groupAt l x .first + groupAt l x .count) → Dec (y < x)
+          → among (groupAt l y .first) (groupAt l y .count) i ≡ false
+      at i in-x (yes d) = among-over _ _ i (omega (arith, apart-datas l proper y x k h (apart-after y x k h (omega arith) (a .to))))
+      at i in-x (no d) = among-under _ _ i (omega (arith, apart-datas l proper x y h k (apart-after x y h k (omega arith) (a .from))))
 
   -- the parts of row j over groups that lie apart from one another add up to that row over all that is inside them
   pub split-groups : (j m : ℕ) (g : ℕ → ℕ) → ((x : ℕ) → x < m → g x < l .groups)

@@ -11,7 +11,7 @@ use Rattle.note.specs.declared.Layout.{Layout}
 use Rattle.rows.specs.Rows.{row}
 use Rattle.rows.specs.Visits.{step}
 use Rattle.rows.specs.Answers.{Matrix}
-use Rattle.rows.specs.Inner.{Written, RowsUpto, Steps}
+use Rattle.rows.specs.Inner.{Written, Steps}
 
 -- ---- a row
 
@@ -35,6 +35,11 @@ pub written-as : (at : ℕ) (f h : ℕ → ℕ) (i : ℕ) (old new : List ℕ) �
 written-as at f h i old new e w = record { long = w .long; here = λ p k. w .here p k ∙ e p; under = w .under }
 
 -- ---- the matrix
+
+-- the rows of the blocks below m
+pub record RowsUpto (l : Layout) (m : ℕ) (bytes : List ℕ) : Type 0 where
+  pub long : length bytes ≡ 1536
+  pub here : (b i : ℕ) → b < m → i < 32 → rowOf bytes b i ≡ row l b i
 
 pub rows-none : (l : Layout) (bytes : List ℕ) → length bytes ≡ 1536 → RowsUpto l 0 bytes
 rows-none l bytes h = record { long = h; here = λ b i k j. absurd (omega arith) }

@@ -2,7 +2,7 @@
 -- that holds both homes: it holds them, and every group that holds them holds it.
 use mathlib.Core.Path.{_≡_, refl}
 use mathlib.Core.Bool.{Bool, true, false, _&&_}
-use Prim.Native.Nat.{ℕ, zero, suc, _+_, _<_, _≤_}
+use Prim.Native.Nat.{ℕ, zero, suc, _<_, _≤_}
 use native.Mathlib.Omega.{arith}
 use native.Mathlib.Decide.{ℕ-discrete}
 use Rattle.linear.proofs.Sets.{in-and-out}
@@ -13,7 +13,7 @@ use Rattle.note.specs.declared.Layout.{Layout}
 use Rattle.note.proofs.Facts.{given-proper, holds-itself, holds-trans, holds-chain}
 use Rattle.rows.specs.Rows.{home}
 use Rattle.rows.specs.Visits.{holds, meetBelow, step}
-use Rattle.rows.proofs.Ranges.{both-true, among-yes, among-in, among-under, among-over}
+use Rattle.rows.proofs.Ranges.{both-true, among-yes, among-in}
 use Rattle.rows.proofs.Homes.{home-below}
 
 -- ---- `holds` tells whether a group holds another
@@ -25,14 +25,6 @@ holds-yes l g x h = among-yes g (groupAt l g .size) x (h .from) (h .to)
 pub holds-in : (l : Layout) (g x : ℕ) → holds l g x ≡ true → Holds l g x
 unfolding holds
 holds-in l g x e = let r = among-in g (groupAt l g .size) x e in record { from = r .0; to = r .1 }
-
-pub holds-under : (l : Layout) (g x : ℕ) → x < g → holds l g x ≡ false
-unfolding holds
-holds-under l g x h = among-under g (groupAt l g .size) x h
-
-pub holds-over : (l : Layout) (g x : ℕ) → g + groupAt l g .size ≤ x → holds l g x ≡ false
-unfolding holds
-holds-over l g x h = among-over g (groupAt l g .size) x h
 
 -- ---- the last group that holds two
 

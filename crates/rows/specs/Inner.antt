@@ -7,10 +7,9 @@ use Prim.Native.Nat.{ℕ, zero, suc, _+_, _-_, _<_, _≤_}
 use lib.Dec.{eqb, ltb}
 use lib.ListN.{length, getD, set}
 use Rattle.linear.specs.Sums.{pick, unit}
-use Rattle.linear.specs.Solved.{rowOf}
 use Rattle.note.specs.declared.Group.{Group}
 use Rattle.note.specs.declared.Layout.{Layout}
-use Rattle.rows.specs.Rows.{among, either, part, row}
+use Rattle.rows.specs.Rows.{among, either, part}
 use Rattle.rows.specs.Visits.{step, listed}
 use Rattle.rows.specs.Answers.{Listed}
 use Rattle.rows.specs.declared.Visits.{Visits}
@@ -48,11 +47,6 @@ pub record Written (at : ℕ) (f : ℕ → ℕ) (i : ℕ) (old new : List ℕ) :
   pub long : length new ≡ length old
   pub here : (p : ℕ) → p < i → getD new (at + p) 0 ≡ f p
   pub under : (q : ℕ) → q < at → getD new q 0 ≡ getD old q 0
-
--- the rows of the blocks below m
-pub record RowsUpto (l : Layout) (m : ℕ) (bytes : List ℕ) : Type 0 where
-  pub long : length bytes ≡ 1536
-  pub here : (b i : ℕ) → b < m → i < 32 → rowOf bytes b i ≡ row l b i
 
 -- the steps of the blocks below m
 pub record Steps (l : Layout) (b m : ℕ) (bytes : List ℕ) : Type 0 where

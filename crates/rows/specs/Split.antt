@@ -1,15 +1,17 @@
 -- Believed: document 01, "The layout note": "This is the split of source document 001: parts of one row over disjoint groups add up to that row
--- over their union." What disjoint and union mean; the theorems `split`, `split-many` and `split-groups` stand in proofs/Parts.
+-- over their union." What disjoint, union and the members of a branch are; the theorems `split`, `split-many` and `split-groups` stand in
+-- proofs/Parts, `split-members` in proofs/Members.
 use mathlib.Core.Path.{_≡_}
 use mathlib.Core.Bool.{Bool, true, false, _||_}
-use Prim.Native.Nat.{ℕ, zero, suc}
+use Prim.Native.Nat.{ℕ, zero, suc, _+_, _<_}
 use Rattle.linear.specs.Sets.{none}
+use Rattle.note.specs.Note.{groupAt}
 use Rattle.note.specs.declared.Layout.{Layout}
 use Rattle.rows.specs.Visits.{holds}
 
 -- what is in S is not in T
-abbrev pub Disjoint : (ℕ → Bool) → (ℕ → Bool) → Type 0
-Disjoint S T = (i : ℕ) → S i ≡ true → T i ≡ false
+pub record Disjoint (S T : ℕ → Bool) : Type 0 where
+  pub apart : (i : ℕ) → S i ≡ true → T i ≡ false
 
 unfoldable pub union : (ℕ → Bool) → (ℕ → Bool) → ℕ → Bool
 union S T i = S i || T i
@@ -23,3 +25,13 @@ unions (suc m) G = union (unions m G) (G m)
 pub record Apart (l : Layout) (x y : ℕ) : Type 0 where
   pub from : holds l x y ≡ false
   pub to : holds l y x ≡ false
+
+-- the member x of the branch g, from 0 on: the first stands right behind the branch's header, each other behind the groups of the one before
+unfoldable pub member : Layout → ℕ → ℕ → ℕ
+member l g zero = suc g
+member l g (suc x) = member l g x + groupAt l (member l g x) .size
+
+-- the branch g has m members: they fill it exactly
+pub record Members (l : Layout) (g m : ℕ) : Type 0 where
+  pub inner : (x : ℕ) → x < m → member l g x < g + groupAt l g .size
+  pub fill : member l g m ≡ g + groupAt l g .size

@@ -2,8 +2,7 @@
 use Prim.Native.Nat.{_-_, _≤_}
 use mathlib.Core.Path.{_≡_, sym, _∙_}
 use native.Mathlib.Omega.{arith}
-use Rattle.rows.specs.Inner.{RowsUpto}
-use Rattle.rows.proofs.Stores.{rows-none, rows-more, rows-all}
+use Rattle.rows.proofs.Stores.{RowsUpto, rows-none, rows-more, rows-all}
 use Rattle.rows.proofs.matrix.Statement.{statement}
 use Rattle.rows.proofs.matrix.Tie as tie
 

@@ -35,8 +35,10 @@ loop-less c = omega arith
 loop-again : tie.Need-loop-again Inv-loop μ-loop
 loop-again c =
     let said = c .before .both .ensures in
-    let turn = c .before .before .before .before .loop .inv in
-    (omega arith, ⊎-elim (λ w. w .1 ∙ meet-yes _ _ _ _ (sym said ∙ w .0 .taken)) (λ w. w .1 ∙ turn .1 ∙ meet-no _ _ _ _ (sym said ∙ w .0 .left)) (c .if1 .came))
+    let turn = c .before .before .before .before .loop .inv in (
+      omega arith,
+      ⊎-elim (λ w. w .1 ∙ meet-yes _ _ _ _ (sym said ∙ w .0 .taken)) (λ w. w .1 ∙ turn .1 ∙ meet-no _ _ _ _ (sym said ∙ w .0 .left)) (c .if1 .came),
+    )
 
 returns : tie.Need-returns Inv-loop μ-loop
 returns c = let end : c .before .loop .g ≡ c .before .before .args .t1 .groups = omega arith in rw end at (c .before .loop .inv .1)
