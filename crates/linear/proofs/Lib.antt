@@ -13,3 +13,4 @@ pub mod Vectors
 pub mod Taking
 pub mod Answers
 pub mod Agreement
+pub mod Certificates
