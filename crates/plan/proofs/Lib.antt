@@ -1,0 +1,5 @@
+pub mod Codes
+pub mod Listings
+pub mod Coefs
+pub mod Verdicts
+pub mod Worked

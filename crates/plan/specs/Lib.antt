@@ -1,0 +1,4 @@
+pub mod Codes
+pub mod Listing
+pub mod Plans
+pub mod Inner
