@@ -4,6 +4,8 @@
 //   N bytes  reads the bytes as a note: its k and n, or the refusal and the offset
 //   R block  the block's row in the last layout that was accepted
 //   H block  the number of the group that is its home, the top being 0
+//   P block marks  the block's plan at L = 1, as block*coefficient, or the refusal
+//   C storage reads  the price under two limits, each a number of quarters, FE for infinity, FF for not a number; figures in quarters
 //   V block marks  the survivors in the order in which the block's plan visits them; the bytes of the marks come lowest first
 ghost use mathlib.Core.Path.{_≡_};
 ghost use Prim.Native.Nat.{_≤_, _<_};
@@ -11,8 +13,11 @@ ghost use lib.ListN.{length};
 ghost use Rattle.note.specs.Given.{Given};
 use libc::STDIN_FILENO;
 use libc::STDOUT_FILENO;
-use note::Answer;
 use note::Layout;
+use plan::Answer;
+use plan::Standing;
+use price::Limits;
+use price::Price;
 
 // The value of a hex digit in capitals; of anything else 0.
 fn digit(c: u8) -> u8
@@ -88,14 +93,14 @@ fn ask_note(line: &[u8], l: Layout) -> Layout {
     let r = note::read_note(&space[..n]);
     let answer = r.answer;
     match answer {
-        Answer::Accepted => {
+        note::Answer::Accepted => {
             let given = r.layout;
             number(b"accepted k ", given.k as u64);
             number(b" n ", total(given.k, given.r));
             io::write_all(STDOUT_FILENO, b"\n");
             given
         }
-        Answer::Refused {
+        note::Answer::Refused {
             number: n,
             offset: o,
         } => {
@@ -195,6 +200,95 @@ fn ask_visits(line: &[u8], l: Layout) {
     }
 }
 
+fn show_plan(block: &[u8], coef: &[u8], reads: usize)
+    requires { ⌜ length (now block) ≡ 32 ⌝ }
+    requires { ⌜ length (now coef) ≡ 32 ⌝ }
+{
+    let mut i: usize = 0;
+    while i < 32 {
+        if i < reads {
+            number(b" ", wide(block[i]));
+            number(b"*", wide(coef[i]));
+        }
+        i += 1;
+    }
+    io::write_all(STDOUT_FILENO, b"\n");
+}
+
+fn ask_plan(line: &[u8], l: Layout) {
+    let mut space = [0u8; 128];
+    parse(line, &mut space);
+    let b = space[0];
+    let lost = word(&space);
+    let st = Standing { len: 1, lost: lost };
+    let r = plan::plan_of(l, st, index(b));
+    let answer = r.answer;
+    let p = r.plan;
+    number(b"plan of ", wide(b));
+    match answer {
+        Answer::Done => {
+            let block = p.block;
+            let coef = p.coef;
+            show_plan(&block, &coef, p.reads);
+        }
+        Answer::Refused(m) => {
+            number(b" refused ", wide(m));
+            io::write_all(STDOUT_FILENO, b"\n");
+        }
+    }
+}
+
+// A limit of q quarters, an infinity or not a number.
+fn limit(q: u8) -> f64 {
+    if q == 254 {
+        return 1.0 / 0.0;
+    }
+    if q == 255 {
+        return 0.0 / 0.0;
+    }
+    (q as f64) / 4.0
+}
+
+// The number of quarters that x is, or 1000.
+fn quarters(x: f64) -> u64 {
+    let mut q: u32 = 0;
+    while q < 200 {
+        if x == (q as f64) / 4.0 {
+            return q as u64;
+        }
+        q += 1;
+    }
+    1000
+}
+
+fn ask_price(line: &[u8], l: Layout) {
+    let mut space = [0u8; 128];
+    parse(line, &mut space);
+    let s = space[0];
+    let r = space[1];
+    let limits = Limits {
+        storage: limit(s),
+        reads: limit(r),
+    };
+    let answer = price::price_of(l, limits);
+    match answer {
+        Price::Fits { storage, reads } => {
+            number(b"fits, storage ", quarters(storage));
+            number(b" reads ", quarters(reads));
+        }
+        Price::TooLarge(storage) => {
+            number(b"too large, storage ", quarters(storage));
+        }
+        Price::TooManyReads(reads) => {
+            number(b"too many reads, ", quarters(reads));
+        }
+        Price::Refused(m) => {
+            number(b"refused ", wide(m));
+        }
+    }
+    io::write_all(STDOUT_FILENO, b"\n");
+}
+
 // A line's answer, and the layout to go on with.
 fn ask(line: &[u8], l: Layout) -> Layout {
     if line.len() == 0 {
@@ -215,6 +309,14 @@ fn ask(line: &[u8], l: Layout) -> Layout {
     }
     if letter == b'H' {
         ask_home(line, l);
+        return l;
+    }
+    if letter == b'P' {
+        ask_plan(line, l);
+        return l;
+    }
+    if letter == b'C' {
+        ask_price(line, l);
         return l;
     }
     if letter == b'V' {
