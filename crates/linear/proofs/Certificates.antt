@@ -3,7 +3,7 @@
 use mathlib.Core.Path.{_≡_, refl, sym, ap₂, _∙_}
 use mathlib.Core.Bool.{Bool, true, false}
 use mathlib.Core.List.{List, [], _∷_}
-use Prim.Native.Nat.{ℕ, zero, suc, _<_}
+use Prim.Native.Nat.{ℕ, suc, _<_}
 use native.Mathlib.Omega.{arith}
 use native.Mathlib.Decide.{ℕ-discrete}
 use lib.Dec.{T, eqb, ltb, eqb→eq, ltb→lt}
@@ -16,7 +16,6 @@ use Rattle.linear.specs.Combinations.{comb, Combo}
 use Rattle.linear.specs.Greedy.{Kept, begin, keeps, skips, IsPlan}
 use Rattle.linear.specs.Blocks.{dot}
 use Rattle.linear.specs.Solved.{vec}
-use Rattle.linear.proofs.Sets.{in-and-out}
 use Rattle.linear.proofs.Sums.{put-same, put-other}
 use Rattle.linear.proofs.Combinations.{comb-zero, comb-⊕, comb-one}
 use Rattle.linear.proofs.Data.{apart-by}

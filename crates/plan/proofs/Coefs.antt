@@ -8,7 +8,7 @@ use native.Mathlib.Decide.{decLt}
 use lib.ListN.{length, getD, List·getD-eq-default}
 use Rattle.linear.specs.Combinations.{Combo}
 use Rattle.linear.specs.Greedy.{visited, IsPlan}
-use Rattle.linear.specs.Solved.{vec, rowOf, Solved}
+use Rattle.linear.specs.Solved.{vec, rowOf, Survivors, Solved}
 use Rattle.linear.specs.declared.Answer.{Answer}
 use Rattle.linear.proofs.Combinations.{combo-more, combo-cong}
 use Rattle.linear.proofs.Choice.{kept-in}
@@ -26,6 +26,10 @@ use Rattle.calls.specs.Code.{HasPlan, PlanOf, alive}
 use Rattle.plan.specs.Codes.{codeOf}
 use Rattle.plan.specs.Inner.{Coefficients}
 use Rattle.plan.proofs.Codes.{places}
+
+-- the first of the survivors are survivors
+pub survivors-fewer : {rows order : List ℕ} {m q : ℕ} → Survivors rows order m → q ≤ m → Survivors rows order q
+survivors-fewer x h = record { matrix = x .matrix; most = omega (arith, x .most); below = λ p k. x .below p (omega arith) }
 
 module _ (l : Layout) (given : Given l) (lost b : ℕ) (below : b < blocks l) (rows order target : List ℕ) (m : ℕ)
     (matrix : (s i : ℕ) → s < 48 → i < 32 → rowOf rows s i ≡ row l s i)

@@ -1,9 +1,9 @@
 -- Proved: the plans of document 01, "A depot pair worked through", marked P: which lost blocks have a plan, which have none, and what the plans are,
 -- by one statement over one list. The tests are computed on the rows as the layout gives them.
-use mathlib.Core.Path.{_≡_, refl, sym, ap, _∙_}
+use mathlib.Core.Path.{_≡_, sym}
 use mathlib.Core.Bool.{Bool, true, false, not}
 use mathlib.Core.List.{List, [], _∷_}
-use Prim.Native.Nat.{ℕ, zero, suc, _+_, _*_, _<_}
+use Prim.Native.Nat.{ℕ, _+_, _*_, _<_}
 use native.Mathlib.Omega.{arith}
 use lib.Dec.{T, eqb, ltb, eqb→eq, ltb→lt}
 use lib.ListN.{getD}
@@ -18,7 +18,7 @@ use Rattle.linear.proofs.Combinations.{combo-cong}
 use Rattle.linear.proofs.Agreement.{combo-agree, plan-agree}
 use Rattle.linear.proofs.Certificates.{Term, _times_, coefs, termSum, makes, tells, Reason, kept, passed, placeAfter, plans, combo-by-terms, none-by-data, plan-by-terms}
 use Rattle.note.specs.Tree.{over, overIn, notesIn, datas, datasIn, redundants, redundantsIn, size, sizeIn, groupsOf, groupsIn, layoutOf}
-use Rattle.marks.specs.Marks.{marked, choose, withMark}
+use Rattle.marks.specs.Marks.{marked, withMark}
 use Rattle.rows.specs.Rows.{among, owns, homeBelow, home, inside, part, rowNumber, row}
 use Rattle.rows.specs.Visits.{holds, meetBelow, step, atStep, visitsBelow, visits}
 use Rattle.rows.proofs.Worked.{depot}
@@ -68,6 +68,15 @@ cases =
     ∷ record { lost = 0 ∷ 1 ∷ 5 ∷ 6 ∷ []; block = 1; says = nothing }
     ∷ record { lost = 0 ∷ 1 ∷ 5 ∷ 6 ∷ []; block = 5; says = nothing }
     ∷ record { lost = 0 ∷ 1 ∷ 5 ∷ 6 ∷ []; block = 6; says = by (29 times 2 ∷ 161 times 3 ∷ []) }
+    ∷ []
+
+-- each data block lost alone, of which the price sheet sums the reads
+abbrev pub lone : List Case
+lone =
+    record { lost = 0 ∷ []; block = 0; says = by (26 times 1 ∷ 129 times 5 ∷ []) }
+    ∷ record { lost = 1 ∷ []; block = 1; says = by (85 times 0 ∷ 128 times 5 ∷ []) }
+    ∷ record { lost = 2 ∷ []; block = 2; says = by (160 times 3 ∷ 131 times 6 ∷ []) }
+    ∷ record { lost = 3 ∷ []; block = 3; says = by (28 times 2 ∷ 130 times 6 ∷ []) }
     ∷ []
 
 -- what is said is so: the block has a plan, and the terms are its plan; or it has none
@@ -211,7 +220,19 @@ grounds =
     ∷ choice (2 ∷ 3 ∷ 4 ∷ []) (kept (0 ∷ 0 ∷ 1 ∷ []) ∷ kept (0 ∷ 0 ∷ 0 ∷ 1 ∷ []) ∷ kept (1 ∷ []) ∷ [])
     ∷ []
 
+abbrev loneGrounds : List Grounds
+loneGrounds =
+    choice (1 ∷ 5 ∷ 2 ∷ 3 ∷ 4 ∷ 6 ∷ []) (kept (0 ∷ 1 ∷ []) ∷ kept (1 ∷ []) ∷ kept (0 ∷ 0 ∷ 1 ∷ []) ∷ kept (0 ∷ 0 ∷ 0 ∷ 1 ∷ []) ∷ passed (23 times 1 ∷ 161 times 2 ∷ 29 times 3 ∷ 26 times 5 ∷ []) ∷ passed (29 times 2 ∷ 161 times 3 ∷ []) ∷ [])
+    ∷ choice (0 ∷ 5 ∷ 2 ∷ 3 ∷ 4 ∷ 6 ∷ []) (kept (1 ∷ []) ∷ kept (0 ∷ 1 ∷ []) ∷ kept (0 ∷ 0 ∷ 1 ∷ []) ∷ kept (0 ∷ 0 ∷ 0 ∷ 1 ∷ []) ∷ passed (143 times 0 ∷ 161 times 2 ∷ 29 times 3 ∷ 85 times 5 ∷ []) ∷ passed (29 times 2 ∷ 161 times 3 ∷ []) ∷ [])
+    ∷ choice (3 ∷ 6 ∷ 0 ∷ 1 ∷ 4 ∷ 5 ∷ []) (kept (0 ∷ 0 ∷ 0 ∷ 1 ∷ []) ∷ kept (0 ∷ 0 ∷ 1 ∷ []) ∷ kept (1 ∷ []) ∷ kept (0 ∷ 1 ∷ []) ∷ passed (27 times 0 ∷ 84 times 1 ∷ 218 times 3 ∷ 160 times 6 ∷ []) ∷ passed (84 times 0 ∷ 27 times 1 ∷ []) ∷ [])
+    ∷ choice (2 ∷ 6 ∷ 0 ∷ 1 ∷ 4 ∷ 5 ∷ []) (kept (0 ∷ 0 ∷ 1 ∷ []) ∷ kept (0 ∷ 0 ∷ 0 ∷ 1 ∷ []) ∷ kept (1 ∷ []) ∷ kept (0 ∷ 1 ∷ []) ∷ passed (27 times 0 ∷ 84 times 1 ∷ 240 times 2 ∷ 28 times 6 ∷ []) ∷ passed (84 times 0 ∷ 27 times 1 ∷ []) ∷ [])
+    ∷ []
+
 -- EVERY CASE IS RIGHT
 pub cases-right : Each (λ (c : Case). Right (c .lost) (c .block) (c .says)) cases
 unfolding table termSum dot sumTo insert count marksOf withMark marked put mul mulBits double _⊕_ visits visitsBelow atStep step meetBelow holds home homeBelow owns among depot layoutOf groupsOf groupsIn datas datasIn redundants redundantsIn size sizeIn notesIn over overIn
 cases-right = each-right cases grounds tt
+
+pub lone-right : Each (λ (c : Case). Right (c .lost) (c .block) (c .says)) lone
+unfolding table termSum dot sumTo insert count marksOf withMark marked put mul mulBits double _⊕_ visits visitsBelow atStep step meetBelow holds home homeBelow owns among depot layoutOf groupsOf groupsIn datas datasIn redundants redundantsIn size sizeIn notesIn over overIn
+lone-right = each-right lone loneGrounds tt

@@ -43,7 +43,7 @@ alone-marked i s = marked-with 0 i s ∙ at (eqb s i)
     at true = refl
     at false = marked-zero s
 
-alone-is : (i : ℕ) → marked (withMark 0 i) ≡ alone i
+pub alone-is : (i : ℕ) → marked (withMark 0 i) ≡ alone i
 alone-is i = fun-ext (alone-marked i)
 
 module _ (l : Layout) (given : Given l) (i : ℕ) (below : i < l .k) {a : Linear.Answer} (x : Coefficients l (withMark 0 i) i a) where

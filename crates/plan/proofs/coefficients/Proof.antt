@@ -3,9 +3,8 @@ use native.Mathlib.Omega.{arith}
 use borrow.Author.Needs.{needs}
 use Rattle.linear.proofs.Vectors.{row-part}
 use Rattle.note.proofs.Facts.{given-proper}
-use Rattle.marks.specs.Marks.{marked}
 use Rattle.rows.proofs.Answers.{listed-at, survivors}
-use Rattle.plan.proofs.Coefs.{coefficients-are}
+use Rattle.plan.proofs.Coefs.{survivors-fewer, coefficients-are}
 use Rattle.plan.proofs.coefficients.Statement.{statement}
 use Rattle.plan.proofs.coefficients.Tie as tie
 
@@ -29,7 +28,7 @@ solve-row-requires c κs =
     let visited = c .before .before .before in
     let filled = visited .before .before in
     let start = filled .before .before in (
-      survivors (start .args .l) (start .pre .0) (marked (start .args .lost)) (start .args .b) _ (visited .visit .ensures) _ (filled .matrix2 .ensures),
+      survivors-fewer (survivors (start .args .l) (start .pre .0) _ _ _ (visited .visit .ensures) _ (filled .matrix2 .ensures)) (omega arith),
       omega (arith, given-proper (start .args .l) (start .pre .0) .n, start .pre .1),
     )
 
