@@ -1,0 +1,228 @@
+-- Proved: which facts make which answer of a repair, a fetch and a correction, and that what was done then is what `calls` asks.
+use mathlib.Core.Path.{_≡_, refl, sym, ap, _∙_}
+use mathlib.Core.Bool.{true, false}
+use mathlib.Core.List.{List}
+use mathlib.Core.Logic.{inl, inr}
+use Prim.Native.Nat.{ℕ, _+_, _*_, _<_, _≤_}
+use native.Mathlib.Omega.{arith}
+use lib.ListN.{length}
+use Rattle.linear.specs.declared.Answer as Linear
+use Rattle.linear.specs.Solved.{vec}
+use Rattle.linear.proofs.Sets.{in-and-out}
+use Rattle.note.specs.declared.Layout.{Layout}
+use Rattle.note.specs.Given.{Given}
+use Rattle.note.proofs.Facts.{given-proper}
+use Rattle.marks.specs.Marks.{marked, withoutMark, remove}
+use Rattle.marks.proofs.Bits.{marked-without, remove-same, remove-other}
+use Rattle.rows.specs.Rows.{blocks}
+use Rattle.rows.specs.Answers.{Matrix}
+use Rattle.calls.specs.Code.{HasPlan}
+use Rattle.calls.specs.Calls.{repair, fetch, correct, Verdict}
+use Rattle.calls.proofs.Plans.{has-plan-iff}
+use Rattle.plan.specs.declared.Standing.{Standing}
+use Rattle.plan.specs.declared.Answer.the-variants.{Done, Refused}
+use Rattle.plan.specs.Codes.{codeOf, front}
+use Rattle.plan.specs.Plans.{said}
+use Rattle.plan.specs.Inner.{Coefficients}
+use Rattle.plan.proofs.Codes.{code-proper}
+use Rattle.stripe.specs.Front.{FrontSays, refusal}
+use Rattle.stripe.specs.Pieces.{Sources, Gathered, Others, Made, Correctable, CorrectedList}
+use Rattle.stripe.specs.Stripes.{Sized, RepairsOne, Corrects, Fetches}
+use Rattle.stripe.proofs.Fronts.{front-given, front-sized, front-unmarked, front-refused}
+use Rattle.stripe.proofs.Combining.{sources}
+use Rattle.stripe.proofs.Effects.{Renders, Planned, corrected, by-plan, repaired, plan-others}
+
+-- ---- 6, 7 and 8
+
+-- the needs 6, 7 and 8 are met
+pub record Sound (l : Layout) (st : Standing) (sized : Type 0) : Type 0 where
+  pub given : Given l
+  pub size : sized
+  pub unmarked : (b : ℕ) → blocks l ≤ b → marked (st .lost) b ≡ false
+
+-- the number 0 says that they are
+pub says-sound : {P : Type 0} (l : Layout) (st : Standing) (f : ℕ) → FrontSays l st P f → f ≡ 0 → Sound l st P
+says-sound l st f says e = record { given = front-given says e; size = front-sized says e; unmarked = front-unmarked says e }
+
+-- ---- plans
+
+module _ (l : Layout) (given : Given l) (L lost b : ℕ) {a : Linear.Answer} (x : Coefficients l lost b a) where
+  -- coefficients that are found are a plan, of blocks of any length
+  pub planned : a .found ≡ true → Planned (codeOf l L) (marked lost) b (a .coef)
+  planned e = record { plan = x .plan e; long = omega (arith, given-proper l given .n, x .long); past = λ s h k. x .past s h }
+
+  -- and a lost block for which they are found has one
+  pub has-plan : b < blocks l → a .found ≡ true → HasPlan (codeOf l L) (marked lost) b
+  has-plan below e = has-plan-iff (codeOf l L) (code-proper l given L) (marked lost) b below .1 (vec (a .coef), x .plan e)
+
+  -- it asks for blocks of the stripe
+  pub plan-sources : (xs : List ℕ) → length xs ≡ blocks l * L → Sources xs (a .coef) L
+  plan-sources xs w = sources (blocks l) (omega (arith, x .long)) (λ i h k. x .past i h) (omega (arith, w))
+
+-- ---- repairs
+
+module _ (l : Layout) (st : Standing) (b : ℕ) (xs : List ℕ) where
+  repair-refused : (number : ℕ) → Verdict (front l st (Sized l (st .len) (length xs))) (codeOf l (st .len)) (marked (st .lost)) (repair b) (said (Refused number))
+      → RepairsOne l st b xs xs (refusal st number)
+  repair-refused number v = record { outcome = record { verdict = v; effect = refl }; len = refl; long = refl }
+
+  pub repairs-front : (f : ℕ) → FrontSays l st (Sized l (st .len) (length xs)) f → (f ≡ 0 → ⊥) → RepairsOne l st b xs xs (refusal st f)
+  repairs-front f says n = repair-refused f (front-refused says n (codeOf l (st .len)) (marked (st .lost)) (repair b))
+
+  module _ (s : Sound l st (Sized l (st .len) (length xs))) where
+    pub repairs-9 : blocks l ≤ b → RepairsOne l st b xs xs (refusal st 9)
+    repairs-9 h =
+        repair-refused 9 (record { first = inr (s .given, inr (s .size, inr (s .unmarked, inl (λ k. omega arith, refl)))) })
+
+    module _ (below : b < blocks l) where
+      pub repairs-10 : marked (st .lost) b ≡ false → RepairsOne l st b xs xs (refusal st 10)
+      repairs-10 e =
+          repair-refused 10
+          (record { first = inr (s .given, inr (s .size, inr (s .unmarked, inr (below, inl (λ h. in-and-out h e, refl))))) })
+
+      module _ (lost : marked (st .lost) b ≡ true) {a : Linear.Answer} (x : Coefficients l (st .lost) b a) where
+        pub repairs-14 : a .found ≡ false → RepairsOne l st b xs xs (refusal st 14)
+        repairs-14 e =
+            repair-refused 14
+            (record { first = inr (s .given, inr (s .size, inr (s .unmarked, inr (below, inr (lost, inl (x .none e, refl)))))) })
+
+        module _ (found : a .found ≡ true) where
+          pub repair-others : Others xs (a .coef) (st .len) b
+          repair-others =
+              plan-others (codeOf l (st .len)) (code-proper l (s .given) (st .len)) (marked (st .lost)) below lost
+              (planned l (s .given) (st .len) (st .lost) b x found) (omega (arith, x .long)) (s .size .range .most) (s .size .whole)
+
+          pub repairs-done : (ys : List ℕ) (m : ℕ) → m ≡ withoutMark (st .lost) b → Made (a .coef) (st .len) b xs ys
+              → RepairsOne l st b xs ys (record { standing = record { len = st .len; lost = m }; answer = Done })
+          repairs-done ys m q M =
+              record {
+                outcome = record {
+                  verdict = record {
+                    first = inr (s .given, inr (s .size, inr (s .unmarked, inr (below, inr (lost, inr (has-plan l (s .given) (st .len) (st .lost) b x below found, refl))))));
+                  };
+                  effect = repaired (codeOf l (st .len)) (marked (st .lost)) refl (planned l (s .given) (st .len) (st .lost) b x found) (marked m)
+                      (gone b ∙ remove-same b (marked (st .lost))) (λ i n. gone i ∙ remove-other b (marked (st .lost)) i n) M;
+                };
+                len = refl;
+                long = M .long;
+              }
+            where
+              gone : (i : ℕ) → marked m i ≡ remove b (marked (st .lost)) i
+              gone i = ap (λ (y : ℕ). marked y i) q ∙ marked-without (st .lost) b i
+
+-- ---- fetches
+
+module _ (l : Layout) (st : Standing) (b : ℕ) (xs old : List ℕ) where
+  fetch-refused : (number : ℕ)
+      → Verdict (front l st (Sized l (st .len) (length xs))) (codeOf l (st .len)) (marked (st .lost)) (fetch b (length old)) (said (Refused number))
+      → Fetches l st b xs old old (Refused number)
+  fetch-refused number v = record { fetch = record { outcome = record { verdict = v; effect = refl }; spare = refl } }
+
+  pub fetches-front : (f : ℕ) → FrontSays l st (Sized l (st .len) (length xs)) f → (f ≡ 0 → ⊥) → Fetches l st b xs old old (Refused f)
+  fetches-front f says n = fetch-refused f (front-refused says n (codeOf l (st .len)) (marked (st .lost)) (fetch b (length old)))
+
+  module _ (s : Sound l st (Sized l (st .len) (length xs))) where
+    pub fetches-9 : blocks l ≤ b → Fetches l st b xs old old (Refused 9)
+    fetches-9 h = fetch-refused 9 (record { first = inr (s .given, inr (s .size, inr (s .unmarked, inl (λ k. omega arith, refl)))) })
+
+    module _ (below : b < blocks l) where
+      pub fetches-13 : (length old ≡ st .len → ⊥) → Fetches l st b xs old old (Refused 13)
+      fetches-13 n = fetch-refused 13 (record { first = inr (s .given, inr (s .size, inr (s .unmarked, inr (below, inl (n, refl))))) })
+
+      module _ (fits : length old ≡ st .len) where
+        pub fetches-present : marked (st .lost) b ≡ false → Fetches l st b xs old old Done
+        fetches-present e =
+            record {
+              fetch = record {
+                outcome = record {
+                  verdict = record {
+                    first = inr (s .given, inr (s .size, inr (s .unmarked, inr (below, inr (fits, inr (λ h. in-and-out h e, refl))))));
+                  };
+                  effect = refl;
+                };
+                spare = record { long = refl; block = λ h. in-and-out h e; present = λ h. refl };
+              };
+            }
+
+        module _ (lost : marked (st .lost) b ≡ true) {a : Linear.Answer} (x : Coefficients l (st .lost) b a) where
+          pub fetches-14 : a .found ≡ false → Fetches l st b xs old old (Refused 14)
+          fetches-14 e =
+              fetch-refused 14
+              (record { first = inr (s .given, inr (s .size, inr (s .unmarked, inr (below, inr (fits, inl (λ h. x .none e (h lost), refl)))))) })
+
+          pub fetches-done : a .found ≡ true → (new : List ℕ) → Gathered (a .coef) xs (st .len) new → Fetches l st b xs old new Done
+          fetches-done found new G =
+              record {
+                fetch = record {
+                  outcome = record {
+                    verdict = record {
+                      first = inr (s .given, inr (s .size, inr (s .unmarked, inr (below, inr (fits, inr (λ h. has-plan l (s .given) (st .len) (st .lost) b x below found, refl))))));
+                    };
+                    effect = refl;
+                  };
+                  spare = record {
+                    long = G .long ∙ sym fits;
+                    block = λ h. by-plan (codeOf l (st .len)) (marked (st .lost)) refl (planned l (s .given) (st .len) (st .lost) b x found) G;
+                    present = λ h. in-and-out lost h;
+                  };
+                };
+              }
+
+-- ---- corrections
+
+module _ (l : Layout) (st : Standing) (i off : ℕ) (d xs : List ℕ) where
+  correct-refused : (number : ℕ)
+      → Verdict (front l st (Sized l (st .len) (length xs))) (codeOf l (st .len)) (marked (st .lost)) (correct i off d) (said (Refused number))
+      → Corrects l st i off d xs xs (Refused number)
+  correct-refused number v = record { outcome = record { verdict = v; effect = refl }; long = refl }
+
+  pub corrects-front : (f : ℕ) → FrontSays l st (Sized l (st .len) (length xs)) f → (f ≡ 0 → ⊥) → Corrects l st i off d xs xs (Refused f)
+  corrects-front f says n = correct-refused f (front-refused says n (codeOf l (st .len)) (marked (st .lost)) (correct i off d))
+
+  module _ (s : Sound l st (Sized l (st .len) (length xs))) where
+    pub corrects-9 : l .k ≤ i → Corrects l st i off d xs xs (Refused 9)
+    corrects-9 h = correct-refused 9 (record { first = inr (s .given, inr (s .size, inr (s .unmarked, inl (λ k. omega arith, refl)))) })
+
+    module _ (number : i < l .k) where
+      pub corrects-11 : marked (st .lost) i ≡ true → Corrects l st i off d xs xs (Refused 11)
+      corrects-11 e =
+          correct-refused 11
+          (record { first = inr (s .given, inr (s .size, inr (s .unmarked, inr (number, inl (λ h. in-and-out e h, refl))))) })
+
+      module _ (here : marked (st .lost) i ≡ false) where
+        pub corrects-12 : (off + length d ≤ st .len → ⊥) → Corrects l st i off d xs xs (Refused 12)
+        corrects-12 n =
+            correct-refused 12
+            (record { first = inr (s .given, inr (s .size, inr (s .unmarked, inr (number, inr (here, inl (n, refl)))))) })
+
+        module _ (stays : off + length d ≤ st .len) (rows : List ℕ) (M : Matrix l rows) where
+          pub correct-able : Correctable rows xs (l .k) (blocks l) (st .len) i off d
+          correct-able =
+              record {
+                matrix = M .long;
+                columns = given-proper l (s .given) .k;
+                fits = omega arith;
+                few = given-proper l (s .given) .n;
+                whole = s .size .whole;
+                number = number;
+                stays = stays;
+              }
+
+          pub corrects-done : (ys : List ℕ) → CorrectedList rows (st .lost) (st .len) (l .k) (blocks l) i off d xs ys → Corrects l st i off d xs ys Done
+          corrects-done ys D =
+              record {
+                outcome = record {
+                  verdict = record { first = inr (s .given, inr (s .size, inr (s .unmarked, inr (number, inr (here, inr (stays, refl)))))) };
+                  effect = corrected (codeOf l (st .len)) renders number D;
+                };
+                long = D .long;
+              }
+            where
+              renders : Renders (codeOf l (st .len)) rows (l .k) (blocks l) (st .len)
+              renders =
+                  record {
+                    data-blocks = refl;
+                    blocks = refl;
+                    bytes = refl;
+                    row = λ b j h k. sym (M .rows b j (omega (arith, given-proper l (s .given) .n)) (omega (arith, given-proper l (s .given) .k)));
+                  }

@@ -1,0 +1,112 @@
+-- Inside: what the functions on the blocks of a stripe ask and leave, over lists of bytes. No public contract names what stands here; what it comes to
+-- in the words of `calls` is in proofs/Effects.
+use mathlib.Core.List.{List}
+use mathlib.Core.Bool.{true, false}
+use mathlib.Core.Path.{_≡_}
+use Prim.Native.Nat.{ℕ, _+_, _*_, _<_, _≤_}
+use lib.ListN.{getD, length}
+use Rattle.field.specs.Field.{_⊕_, mul}
+use Rattle.linear.specs.Combinations.{comb}
+use Rattle.linear.specs.Solved.{vec, rowOf}
+use Rattle.marks.specs.Marks.{marked}
+use Rattle.calls.specs.Calls.{laid}
+
+-- byte x of block b: "A stripe holds n blocks of L bytes one after another"
+abbrev pub byteOf : ℕ → List ℕ → ℕ → ℕ → ℕ
+byteOf len xs b x = getD xs (b * len + x) 0
+
+-- ---- combinations of blocks
+
+-- what a combination asks: every block that it reads, its coefficient not being zero, stands in the stripe
+pub record Sources (xs coef : List ℕ) (len : ℕ) : Type 0 where
+  pub few : length coef ≤ 48
+  pub inside : (s : ℕ) → s < length coef → (getD coef s 0 ≡ 0 → ⊥) → s * len + len ≤ length xs
+
+-- what `add_block` leaves: block s times its coefficient is added
+pub record Added (coef xs : List ℕ) (len from s : ℕ) (acc r : List ℕ) : Type 0 where
+  pub long : length r ≡ length acc
+  pub at : (x : ℕ) → x < length acc → getD r x 0 ≡ getD acc x 0 ⊕ mul (getD coef s 0) (byteOf len xs s (from + x))
+
+-- what `combine` leaves: the blocks below m are added, each times its coefficient
+pub record Combined (coef xs : List ℕ) (len from m : ℕ) (acc r : List ℕ) : Type 0 where
+  pub long : length r ≡ length acc
+  pub at : (x : ℕ) → x < length acc → getD r x 0 ≡ getD acc x 0 ⊕ comb m (vec coef) (byteOf len xs) (from + x)
+
+-- what `gather` leaves: the combination of all blocks
+pub record Gathered (coef xs : List ℕ) (len : ℕ) (r : List ℕ) : Type 0 where
+  pub long : length r ≡ len
+  pub at : (x : ℕ) → x < len → getD r x 0 ≡ comb (length coef) (vec coef) (byteOf len xs) x
+
+-- what `make` asks: block b stands in the stripe and is not itself read
+pub record Others (xs coef : List ℕ) (len b : ℕ) : Type 0 where
+  pub sources : Sources xs coef len
+  pub unread : b < length coef → getD coef b 0 ≡ 0
+  pub room : b * len + len ≤ length xs
+  pub short : len ≤ 1024
+
+-- what `make` leaves: block b is the combination of the blocks as they were, every other position is as it was
+pub record Made (coef : List ℕ) (len b : ℕ) (xs ys : List ℕ) : Type 0 where
+  pub long : length ys ≡ length xs
+  pub block : (x : ℕ) → x < len → byteOf len ys b x ≡ comb (length coef) (vec coef) (byteOf len xs) x
+  pub before : (p : ℕ) → p < b * len → getD ys p 0 ≡ getD xs p 0
+  pub after : (p : ℕ) → b * len + len ≤ p → getD ys p 0 ≡ getD xs p 0
+
+-- ---- encoding
+
+-- what `encode_all` asks: a matrix of 48 rows of 32 columns, of which a redundant block's are zero from k on, and a whole stripe
+pub record Encodable (rows xs : List ℕ) (k n len : ℕ) : Type 0 where
+  pub matrix : length rows ≡ 1536
+  pub columns : k ≤ 32
+  pub fits : k ≤ n
+  pub few : n ≤ 48
+  pub short : len ≤ 1024
+  pub whole : length xs ≡ n * len
+  pub zero : (b i : ℕ) → k ≤ b → b < n → k ≤ i → i < 32 → rowOf rows b i ≡ 0
+
+-- what `encode_all` leaves: every data byte as it was, the redundant blocks below m made of the data as lent
+pub record EncodedList (rows : List ℕ) (len k m : ℕ) (xs ys : List ℕ) : Type 0 where
+  pub long : length ys ≡ length xs
+  pub kept : (p : ℕ) → p < k * len → getD ys p 0 ≡ getD xs p 0
+  pub made : (b x : ℕ) → k ≤ b → b < m → x < len → byteOf len ys b x ≡ comb 32 (rowOf rows b) (byteOf len xs) x
+
+-- ---- corrections
+
+-- what `lay` leaves: c times the difference d is added from position at on
+pub record Laid (d : List ℕ) (c at : ℕ) (xs ys : List ℕ) : Type 0 where
+  pub long : length ys ≡ length xs
+  pub each : (p : ℕ) → getD ys p 0 ≡ getD xs p 0 ⊕ mul c (laid at d p)
+
+-- what a correction of data block i asks: a matrix of 48 rows of 32 columns, a whole stripe, a difference that stays within the block
+pub record Correctable (rows xs : List ℕ) (k n len i off : ℕ) (d : List ℕ) : Type 0 where
+  pub matrix : length rows ≡ 1536
+  pub columns : k ≤ 32
+  pub fits : k ≤ n
+  pub few : n ≤ 48
+  pub whole : length xs ≡ n * len
+  pub number : i < k
+  pub stays : off + length d ≤ len
+
+-- what `touch` leaves: block b has its multiple of the difference, or is lost and nothing changes
+pub record Touched (rows : List ℕ) (lost len i off : ℕ) (d : List ℕ) (b : ℕ) (xs ys : List ℕ) : Type 0 where
+  pub present : marked lost b ≡ false → Laid d (rowOf rows b i) (b * len + off) xs ys
+  pub missing : marked lost b ≡ true → ys ≡ xs
+
+-- what `spread` leaves: of the redundant blocks below m, each that is not lost has its multiple of the difference; nothing else changes
+pub record Spread (rows : List ℕ) (lost len k i off : ℕ) (d : List ℕ) (m : ℕ) (xs ys : List ℕ) : Type 0 where
+  pub long : length ys ≡ length xs
+  pub present : (b x : ℕ) → k ≤ b → b < m → marked lost b ≡ false → x < len
+      → byteOf len ys b x ≡ byteOf len xs b x ⊕ mul (rowOf rows b i) (laid off d x)
+  pub missing : (b x : ℕ) → k ≤ b → b < m → marked lost b ≡ true → x < len → byteOf len ys b x ≡ byteOf len xs b x
+  pub others : (b x : ℕ) → b < k → x < len → byteOf len ys b x ≡ byteOf len xs b x
+  pub later : (b x : ℕ) → m ≤ b → x < len → byteOf len ys b x ≡ byteOf len xs b x
+
+-- what `correct_all` leaves: "bytes to be XORed into a data block from an offset. Each surviving redundant block .. gets coefficient times difference at
+-- the same offsets. Lost blocks are not touched."
+pub record CorrectedList (rows : List ℕ) (lost len k n i off : ℕ) (d xs ys : List ℕ) : Type 0 where
+  pub long : length ys ≡ length xs
+  pub small : (j : ℕ) → getD d j 0 < 256
+  pub block : (x : ℕ) → x < len → byteOf len ys i x ≡ byteOf len xs i x ⊕ laid off d x
+  pub others : (b x : ℕ) → b < k → (b ≡ i → ⊥) → x < len → byteOf len ys b x ≡ byteOf len xs b x
+  pub present : (b x : ℕ) → k ≤ b → b < n → marked lost b ≡ false → x < len
+      → byteOf len ys b x ≡ byteOf len xs b x ⊕ mul (rowOf rows b i) (laid off d x)
+  pub missing : (b x : ℕ) → k ≤ b → b < n → marked lost b ≡ true → x < len → byteOf len ys b x ≡ byteOf len xs b x

@@ -1,0 +1,229 @@
+// The calls on a stripe, with its standing by value. A stripe holds its blocks one after another: block b from b * len on.
+mod correcting;
+mod encoding;
+mod pieces;
+
+ghost use mathlib.Core.Path.{_≡_};
+ghost use lib.ListN.{length};
+ghost use Rattle.plan.specs.Codes.{InRange};
+ghost use Rattle.stripe.specs.Front.{refusal, ShapeSays, FrontSays};
+ghost use Rattle.stripe.specs.Stripes.{Sized, Encodes, Loses, RepairsOne, Corrects, Fetches};
+use note::Layout;
+use plan::Answer;
+use plan::Standing;
+
+// The standing after a call, and the call's answer.
+pub struct Stood {
+    pub standing: Standing,
+    pub answer: Answer,
+}
+
+// A refusal leaves the standing as it was.
+fn refuse(st: Standing, number: u8) -> Stood
+    ensures { λ r. ⌜ r ≡ refusal st number ⌝ }
+{
+    Stood {
+        standing: st,
+        answer: Answer::Refused(number),
+    }
+}
+
+// 6 or 7 where it applies, in this order; otherwise 0. `size` is the length of the stripe.
+fn shape(l: Layout, len: usize, size: usize) -> u8
+    ensures { λ r. ⌜ ShapeSays l (Sized l len size) r ⌝ }
+{
+    if !note::known(l) {
+        return 6;
+    }
+    if len < 1 {
+        return 7;
+    }
+    if 1024 < len {
+        return 7;
+    }
+    let n = l.k + l.r;
+    if size != n * len {
+        return 7;
+    }
+    0
+}
+
+// 6, 7 or 8 where it applies, in this order; otherwise 0.
+fn front(l: Layout, st: Standing, size: usize) -> u8
+    ensures { λ r. ⌜ FrontSays l st (Sized l (st .len) size) r ⌝ }
+{
+    let f = shape(l, st.len, size);
+    if f != 0 {
+        return f;
+    }
+    let n = l.k + l.r;
+    if !marks::none_from(st.lost, n) {
+        return 8;
+    }
+    0
+}
+
+// The same where no stripe is lent: of 7, L alone is asked.
+fn front_alone(l: Layout, st: Standing) -> u8
+    ensures { λ r. ⌜ FrontSays l st (InRange (st .len)) r ⌝ }
+{
+    if !note::known(l) {
+        return 6;
+    }
+    let len = st.len;
+    if len < 1 {
+        return 7;
+    }
+    if 1024 < len {
+        return 7;
+    }
+    let n = l.k + l.r;
+    if !marks::none_from(st.lost, n) {
+        return 8;
+    }
+    0
+}
+
+// Writes every redundant block from the data as lent, and marks nothing lost.
+pub fn encode_by(l: Layout, st: Standing, stripe: &mut [u8]) -> Stood
+    ensures { λ r. ⌜ Encodes l st (now (stripe .entry)) (now (stripe .exit)) r ⌝ }
+{
+    let len = st.len;
+    let f = shape(l, len, stripe.len());
+    if f != 0 {
+        return refuse(st, f);
+    }
+    let n = l.k + l.r;
+    let mut matrix = [0u8; 1536];
+    rows::matrix(l, &mut matrix);
+    encoding::encode_all(&matrix, stripe, l.k, n, len);
+    let cleared = Standing { len: len, lost: 0 };
+    Stood {
+        standing: cleared,
+        answer: Answer::Done,
+    }
+}
+
+// Marks block b lost.
+pub fn lose_by(l: Layout, st: Standing, b: usize) -> Stood
+    ensures { λ r. ⌜ Loses l st b r ⌝ }
+{
+    let f = front_alone(l, st);
+    if f != 0 {
+        return refuse(st, f);
+    }
+    let n = l.k + l.r;
+    if n <= b {
+        return refuse(st, 9);
+    }
+    let lost = st.lost;
+    if marks::holds(lost, b) {
+        return refuse(st, 11);
+    }
+    let m = marks::with(lost, b);
+    let marked = Standing {
+        len: st.len,
+        lost: m,
+    };
+    Stood {
+        standing: marked,
+        answer: Answer::Done,
+    }
+}
+
+// Writes lost block b by its plan, and clears its mark.
+pub fn repair_by(l: Layout, st: Standing, stripe: &mut [u8], b: usize) -> Stood
+    ensures { λ r. ⌜ RepairsOne l st b (now (stripe .entry)) (now (stripe .exit)) r ⌝ }
+{
+    let f = front(l, st, stripe.len());
+    if f != 0 {
+        return refuse(st, f);
+    }
+    let n = l.k + l.r;
+    if n <= b {
+        return refuse(st, 9);
+    }
+    let lost = st.lost;
+    if !marks::holds(lost, b) {
+        return refuse(st, 10);
+    }
+    let a = plan::coefficients(l, lost, b);
+    if !a.found {
+        return refuse(st, 14);
+    }
+    let len = st.len;
+    let coef = a.coef;
+    pieces::make(stripe, &coef, len, b);
+    let m = marks::without(lost, b);
+    let mended = Standing { len: len, lost: m };
+    Stood {
+        standing: mended,
+        answer: Answer::Done,
+    }
+}
+
+// Lays a difference into data block i at an offset, and its multiples into the surviving redundant blocks.
+pub fn correct_by(
+    l: Layout,
+    st: Standing,
+    stripe: &mut [u8],
+    i: usize,
+    off: usize,
+    diff: &[u8],
+) -> Answer
+    ensures { λ r. ⌜ Corrects l st i off (now (diff .entry)) (now (stripe .entry)) (now (stripe .exit)) r ⌝ }
+{
+    let f = front(l, st, stripe.len());
+    if f != 0 {
+        return Answer::Refused(f);
+    }
+    if l.k <= i {
+        return Answer::Refused(9);
+    }
+    let lost = st.lost;
+    if marks::holds(lost, i) {
+        return Answer::Refused(11);
+    }
+    let len = st.len;
+    let m = diff.len();
+    if len < m {
+        return Answer::Refused(12);
+    }
+    if len - m < off {
+        return Answer::Refused(12);
+    }
+    let n = l.k + l.r;
+    let mut matrix = [0u8; 1536];
+    rows::matrix(l, &mut matrix);
+    correcting::correct_all(&matrix, stripe, lost, l.k, n, len, i, off, diff);
+    Answer::Done
+}
+
+// Rebuilds a lost block into the spare; for a present one the spare is left alone.
+pub fn fetch_by(l: Layout, st: Standing, stripe: &[u8], spare: &mut [u8], b: usize) -> Answer
+    ensures { λ r. ⌜ Fetches l st b (now (stripe .entry)) (now (spare .entry)) (now (spare .exit)) r ⌝ }
+{
+    let f = front(l, st, stripe.len());
+    if f != 0 {
+        return Answer::Refused(f);
+    }
+    let n = l.k + l.r;
+    if n <= b {
+        return Answer::Refused(9);
+    }
+    let len = st.len;
+    if spare.len() != len {
+        return Answer::Refused(13);
+    }
+    let lost = st.lost;
+    if !marks::holds(lost, b) {
+        return Answer::Done;
+    }
+    let a = plan::coefficients(l, lost, b);
+    if !a.found {
+        return Answer::Refused(14);
+    }
+    let coef = a.coef;
+    pieces::gather(spare, stripe, &coef, len);
+    Answer::Done
+}
