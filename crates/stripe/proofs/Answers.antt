@@ -19,9 +19,9 @@ use Rattle.plan.specs.declared.Standing.{Standing}
 use Rattle.plan.specs.declared.Answer.the-variants.{Done}
 use Rattle.plan.specs.Codes.{codeOf, InRange, front}
 use Rattle.stripe.specs.Front.{refusal, ShapeSays, FrontSays}
-use Rattle.stripe.specs.Pieces.{Encodable, EncodedList}
+use Rattle.pieces.specs.Pieces.{Encodable, EncodedList}
 use Rattle.stripe.specs.Stripes.{Sized, Encodes, Loses}
-use Rattle.stripe.proofs.Effects.{Renders, encoded}
+use Rattle.pieces.proofs.Effects.{Renders, encoded}
 use Rattle.stripe.proofs.Fronts.{shape-given, shape-sized, shape-refused, front-refused, front-passed}
 
 -- ---- a loss

@@ -1,8 +1,3 @@
-pub mod Blocks
-pub mod Combining
-pub mod Filling
-pub mod Laying
-pub mod Effects
 pub mod Fronts
 pub mod Answers
 pub mod Tops

@@ -26,11 +26,11 @@ use Rattle.plan.specs.Plans.{said}
 use Rattle.plan.specs.Inner.{Coefficients}
 use Rattle.plan.proofs.Codes.{code-proper}
 use Rattle.stripe.specs.Front.{FrontSays, refusal}
-use Rattle.stripe.specs.Pieces.{Sources, Gathered, Others, Made, Correctable, CorrectedList}
+use Rattle.pieces.specs.Pieces.{Sources, Gathered, Others, Made, Correctable, CorrectedList}
 use Rattle.stripe.specs.Stripes.{Sized, RepairsOne, Corrects, Fetches}
 use Rattle.stripe.proofs.Fronts.{front-given, front-sized, front-unmarked, front-refused}
-use Rattle.stripe.proofs.Combining.{sources}
-use Rattle.stripe.proofs.Effects.{Renders, Planned, corrected, by-plan, repaired, plan-others}
+use Rattle.pieces.proofs.Combining.{sources}
+use Rattle.pieces.proofs.Effects.{Renders, Planned, corrected, by-plan, repaired, plan-others}
 
 -- ---- 6, 7 and 8
 

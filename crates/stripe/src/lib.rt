@@ -1,7 +1,4 @@
 // The calls on a stripe, with its standing by value. A stripe holds its blocks one after another: block b from b * len on.
-mod correcting;
-mod encoding;
-mod pieces;
 
 ghost use mathlib.Core.Path.{_≡_};
 ghost use lib.ListN.{length};
@@ -96,7 +93,7 @@ pub fn encode_by(l: Layout, st: Standing, stripe: &mut [u8]) -> Stood
     let n = l.k + l.r;
     let mut matrix = [0u8; 1536];
     rows::matrix(l, &mut matrix);
-    encoding::encode_all(&matrix, stripe, l.k, n, len);
+    pieces::encoding::encode_all(&matrix, stripe, l.k, n, len);
     let cleared = Standing { len: len, lost: 0 };
     Stood {
         standing: cleared,
@@ -195,7 +192,7 @@ pub fn correct_by(
     let n = l.k + l.r;
     let mut matrix = [0u8; 1536];
     rows::matrix(l, &mut matrix);
-    correcting::correct_all(&matrix, stripe, lost, l.k, n, len, i, off, diff);
+    pieces::correcting::correct_all(&matrix, stripe, lost, l.k, n, len, i, off, diff);
     Answer::Done
 }
 

@@ -6,7 +6,7 @@ use Rattle.note.specs.Given.{Given}
 use Rattle.note.proofs.Facts.{given-proper}
 use Rattle.plan.specs.Codes.{InRange}
 use Rattle.plan.proofs.Verdicts.{told-yes, told-no}
-use Rattle.stripe.proofs.Blocks.{under}
+use Rattle.pieces.proofs.Blocks.{under}
 use Rattle.stripe.proofs.Fronts.{shape-6, shape-7, shape-0}
 use Rattle.stripe.proofs.shape.Statement.{statement}
 use Rattle.stripe.proofs.shape.Tie as tie

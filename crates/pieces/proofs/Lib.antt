@@ -1,0 +1,5 @@
+pub mod Blocks
+pub mod Combining
+pub mod Filling
+pub mod Laying
+pub mod Effects
