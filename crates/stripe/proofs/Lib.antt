@@ -1,3 +1,4 @@
 pub mod Fronts
 pub mod Answers
 pub mod Tops
+pub mod Turning

@@ -17,7 +17,7 @@ use Rattle.marks.proofs.Bits.{marked-without, remove-same, remove-other}
 use Rattle.rows.specs.Rows.{blocks}
 use Rattle.rows.specs.Answers.{Matrix}
 use Rattle.calls.specs.Code.{HasPlan}
-use Rattle.calls.specs.Calls.{repair, fetch, correct, Verdict}
+use Rattle.calls.specs.Calls.{stripe, repair, fetch, correct, Verdict, Repaired}
 use Rattle.calls.proofs.Plans.{has-plan-iff}
 use Rattle.plan.specs.declared.Standing.{Standing}
 use Rattle.plan.specs.declared.Answer.the-variants.{Done, Refused}
@@ -59,6 +59,22 @@ module _ (l : Layout) (given : Given l) (L lost b : ℕ) {a : Linear.Answer} (x 
   pub plan-sources : (xs : List ℕ) → length xs ≡ blocks l * L → Sources xs (a .coef) L
   plan-sources xs w = sources (blocks l) (omega (arith, x .long)) (λ i h k. x .past i h) (omega (arith, w))
 
+  module _ (found : a .found ≡ true) (xs : List ℕ) where
+    -- a lost block of a whole stripe can be made by it
+    pub mendable : b < blocks l → marked lost b ≡ true → L ≤ 1024 → length xs ≡ blocks l * L → Others xs (a .coef) L b
+    mendable below gone most whole =
+        plan-others (codeOf l L) (code-proper l given L) (marked lost) below gone (planned found) (omega (arith, x .long)) most whole
+
+    -- and is then repaired, its mark being cleared
+    pub mended : (ys : List ℕ) (m : ℕ) → m ≡ withoutMark lost b → Made (a .coef) L b xs ys
+        → Repaired (codeOf l L) (marked lost) (stripe L (marked lost) xs) b (stripe L (marked m) ys)
+    mended ys m q M =
+        repaired (codeOf l L) (marked lost) refl (planned found) (marked m)
+        (gone b ∙ remove-same b (marked lost)) (λ i n. gone i ∙ remove-other b (marked lost) i n) M
+      where
+        gone : (i : ℕ) → marked m i ≡ remove b (marked lost) i
+        gone i = ap (λ (y : ℕ). marked y i) q ∙ marked-without lost b i
+
 -- ---- repairs
 
 module _ (l : Layout) (st : Standing) (b : ℕ) (xs : List ℕ) where
@@ -88,9 +104,7 @@ module _ (l : Layout) (st : Standing) (b : ℕ) (xs : List ℕ) where
 
         module _ (found : a .found ≡ true) where
           pub repair-others : Others xs (a .coef) (st .len) b
-          repair-others =
-              plan-others (codeOf l (st .len)) (code-proper l (s .given) (st .len)) (marked (st .lost)) below lost
-              (planned l (s .given) (st .len) (st .lost) b x found) (omega (arith, x .long)) (s .size .range .most) (s .size .whole)
+          repair-others = mendable l (s .given) (st .len) (st .lost) b x found xs below lost (s .size .range .most) (s .size .whole)
 
           pub repairs-done : (ys : List ℕ) (m : ℕ) → m ≡ withoutMark (st .lost) b → Made (a .coef) (st .len) b xs ys
               → RepairsOne l st b xs ys (record { standing = record { len = st .len; lost = m }; answer = Done })
@@ -100,15 +114,11 @@ module _ (l : Layout) (st : Standing) (b : ℕ) (xs : List ℕ) where
                   verdict = record {
                     first = inr (s .given, inr (s .size, inr (s .unmarked, inr (below, inr (lost, inr (has-plan l (s .given) (st .len) (st .lost) b x below found, refl))))));
                   };
-                  effect = repaired (codeOf l (st .len)) (marked (st .lost)) refl (planned l (s .given) (st .len) (st .lost) b x found) (marked m)
-                      (gone b ∙ remove-same b (marked (st .lost))) (λ i n. gone i ∙ remove-other b (marked (st .lost)) i n) M;
+                  effect = mended l (s .given) (st .len) (st .lost) b x found xs ys m q M;
                 };
                 len = refl;
                 long = M .long;
               }
-            where
-              gone : (i : ℕ) → marked m i ≡ remove b (marked (st .lost)) i
-              gone i = ap (λ (y : ℕ). marked y i) q ∙ marked-without (st .lost) b i
 
 -- ---- fetches
 

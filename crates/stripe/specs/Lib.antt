@@ -1,2 +1,3 @@
 pub mod Stripes
 pub mod Front
+pub mod Turns

@@ -1,10 +1,11 @@
 // The calls on a stripe, with its standing by value. A stripe holds its blocks one after another: block b from b * len on.
+mod turns;
 
 ghost use mathlib.Core.Path.{_≡_};
 ghost use lib.ListN.{length};
 ghost use Rattle.plan.specs.Codes.{InRange};
 ghost use Rattle.stripe.specs.Front.{refusal, ShapeSays, FrontSays};
-ghost use Rattle.stripe.specs.Stripes.{Sized, Encodes, Loses, RepairsOne, Corrects, Fetches};
+ghost use Rattle.stripe.specs.Stripes.{Sized, Encodes, Loses, RepairsOne, RebuildsAll, Corrects, Fetches};
 use note::Layout;
 use plan::Answer;
 use plan::Standing;
@@ -13,6 +14,19 @@ use plan::Standing;
 pub struct Stood {
     pub standing: Standing,
     pub answer: Answer,
+}
+
+// A rebuild is accepted, refused by its number, or refused with 14, naming the lowest lost block that has no plan.
+pub enum Rebuilding {
+    Whole,
+    Denied(u8),
+    NoPlan(usize),
+}
+
+// The standing after a rebuild, and its answer.
+pub struct Rebuilt {
+    pub standing: Standing,
+    pub answer: Rebuilding,
 }
 
 // A refusal leaves the standing as it was.
@@ -156,6 +170,35 @@ pub fn repair_by(l: Layout, st: Standing, stripe: &mut [u8], b: usize) -> Stood
     Stood {
         standing: mended,
         answer: Answer::Done,
+    }
+}
+
+// Repairs every lost block in rising order, once each is known to have a plan.
+pub fn rebuild_by(l: Layout, st: Standing, stripe: &mut [u8]) -> Rebuilt
+    ensures { λ r. ⌜ RebuildsAll l st (now (stripe .entry)) (now (stripe .exit)) r ⌝ }
+{
+    let f = front(l, st, stripe.len());
+    if f != 0 {
+        return Rebuilt {
+            standing: st,
+            answer: Rebuilding::Denied(f),
+        };
+    }
+    let n = l.k + l.r;
+    let lost = st.lost;
+    let w = turns::lowest(l, lost, n);
+    if w < n {
+        return Rebuilt {
+            standing: st,
+            answer: Rebuilding::NoPlan(w),
+        };
+    }
+    let len = st.len;
+    let left = turns::restore(l, lost, stripe, len, n);
+    let whole = Standing { len: len, lost: left };
+    Rebuilt {
+        standing: whole,
+        answer: Rebuilding::Whole,
     }
 }
 
