@@ -2,3 +2,4 @@ pub mod Fronts
 pub mod Answers
 pub mod Tops
 pub mod Turning
+pub mod Viewing

@@ -160,16 +160,17 @@ module _ (l : Layout) (st : Standing) (b : ℕ) (xs old : List ℕ) where
               fetch-refused 14
               (record { first = inr (s .given, inr (s .size, inr (s .unmarked, inr (below, inr (fits, inl (λ h. x .none e (h lost), refl)))))) })
 
+          -- a fetch of a lost block that has a plan is accepted
+          pub fetch-planned : a .found ≡ true
+              → Verdict (front l st (Sized l (st .len) (length xs))) (codeOf l (st .len)) (marked (st .lost)) (fetch b (length old)) (said Done)
+          fetch-planned found =
+              record { first = inr (s .given, inr (s .size, inr (s .unmarked, inr (below, inr (fits, inr (λ h. has-plan l (s .given) (st .len) (st .lost) b x below found, refl)))))) }
+
           pub fetches-done : a .found ≡ true → (new : List ℕ) → Gathered (a .coef) xs (st .len) new → Fetches l st b xs old new Done
           fetches-done found new G =
               record {
                 fetch = record {
-                  outcome = record {
-                    verdict = record {
-                      first = inr (s .given, inr (s .size, inr (s .unmarked, inr (below, inr (fits, inr (λ h. has-plan l (s .given) (st .len) (st .lost) b x below found, refl))))));
-                    };
-                    effect = refl;
-                  };
+                  outcome = record { verdict = fetch-planned found; effect = refl };
                   spare = record {
                     long = G .long ∙ sym fits;
                     block = λ h. by-plan (codeOf l (st .len)) (marked (st .lost)) refl (planned l (s .given) (st .len) (st .lost) b x found) G;

@@ -5,7 +5,7 @@ ghost use mathlib.Core.Path.{_≡_};
 ghost use lib.ListN.{length};
 ghost use Rattle.plan.specs.Codes.{InRange};
 ghost use Rattle.stripe.specs.Front.{refusal, ShapeSays, FrontSays};
-ghost use Rattle.stripe.specs.Stripes.{Sized, Encodes, Loses, RepairsOne, RebuildsAll, Corrects, Fetches};
+ghost use Rattle.stripe.specs.Stripes.{Sized, Encodes, Loses, RepairsOne, RebuildsAll, Corrects, Fetches, Views};
 use note::Layout;
 use plan::Answer;
 use plan::Standing;
@@ -195,7 +195,10 @@ pub fn rebuild_by(l: Layout, st: Standing, stripe: &mut [u8]) -> Rebuilt
     }
     let len = st.len;
     let left = turns::restore(l, lost, stripe, len, n);
-    let whole = Standing { len: len, lost: left };
+    let whole = Standing {
+        len: len,
+        lost: left,
+    };
     Rebuilt {
         standing: whole,
         answer: Rebuilding::Whole,
@@ -266,4 +269,32 @@ pub fn fetch_by(l: Layout, st: Standing, stripe: &[u8], spare: &mut [u8], b: usi
     let coef = a.coef;
     pieces::gather(spare, stripe, &coef, len);
     Answer::Done
+}
+
+// The part that holds block b: of the spare where b is lost, of the stripe where it is not. Empty where fetching would refuse.
+pub fn view_by<'a>(l: Layout, st: Standing, stripe: &'a [u8], spare: &'a [u8], b: usize) -> &'a [u8]
+    ensures { λ r. ⌜ Views l st b (stripe .entry) (spare .entry) r ⌝ }
+{
+    let f = front(l, st, stripe.len());
+    if f != 0 {
+        return &spare[..0];
+    }
+    let n = l.k + l.r;
+    if n <= b {
+        return &spare[..0];
+    }
+    let len = st.len;
+    if len != spare.len() {
+        return &spare[..0];
+    }
+    if !marks::holds(st.lost, b) {
+        let at = b * len;
+        let end = at + len;
+        return &stripe[at..end];
+    }
+    let a = plan::coefficients(l, st.lost, b);
+    if a.found {
+        return &spare[..];
+    }
+    &spare[..0]
 }
