@@ -12,8 +12,7 @@ use Rattle.linear.proofs.Existence.{plan-few}
 use Rattle.note.specs.declared.Layout.{Layout}
 use Rattle.note.specs.Given.{Given, Tells}
 use Rattle.note.proofs.Facts.{given-proper}
-use Rattle.marks.specs.Marks.{marked, noneFrom}
-use Rattle.marks.proofs.Bits.{none-from}
+use Rattle.marks.specs.Marks.{marked}
 use Rattle.rows.specs.Rows.{blocks, row}
 use Rattle.rows.proofs.Parts.{row-byte}
 use Rattle.calls.specs.Code.{HasPlan, PlanOf}
@@ -31,7 +30,9 @@ use Rattle.plan.specs.Codes.{codeOf, InRange, front}
 use Rattle.plan.specs.Listing.{blank, listOf}
 use Rattle.plan.specs.Plans.{said, IsListed, refusal, Plans}
 use Rattle.plan.specs.Inner.{Coefficients}
+use Rattle.plan.specs.Front.{FrontSays}
 use Rattle.plan.proofs.Codes.{code-proper}
+use Rattle.plan.proofs.Fronts.{Sound, front-refused}
 use Rattle.plan.proofs.Listings.{listOf-less, listOf-cong, tally-less}
 
 -- ---- a test's answer
@@ -64,57 +65,39 @@ module _ (l : Layout) (st : Standing) (b : ℕ) where
         nothing = λ m e. refl;
       }
 
-  pub plans-6 : (Given l → ⊥) → Plans l st b (refusal 6)
-  plans-6 n = refused-by 6 (record { first = inl (n, refl) })
+  pub plans-front : (f : ℕ) → FrontSays l st (InRange (st .len)) f → (f ≡ 0 → ⊥) → Plans l st b (refusal f)
+  plans-front f says n = refused-by f (front-refused says n (codeOf l (st .len)) (marked (st .lost)) (repair b))
 
-  module _ (given : Given l) where
-    pub plans-7 : (InRange (st .len) → ⊥) → Plans l st b (refusal 7)
-    plans-7 n = refused-by 7 (record { first = inr (given, inl (n, refl)) })
+  module _ (s : Sound l st (InRange (st .len))) where
+    pub plans-9 : blocks l ≤ b → Plans l st b (refusal 9)
+    plans-9 h = refused-by 9 (record { first = inr (s .given, inr (s .size, inr (s .unmarked, inl (λ k. omega arith, refl)))) })
 
-    module _ (range : InRange (st .len)) where
-      pub plans-8 : noneFrom (st .lost) (blocks l) ≡ false → Plans l st b (refusal 8)
-      plans-8 e =
-          refused-by 8
-          (record { first = inr (given, inr (range, inl (λ h. in-and-out (none-from (st .lost) (blocks l) .1 h) e, refl))) })
+    module _ (below : b < blocks l) where
+      pub plans-10 : marked (st .lost) b ≡ false → Plans l st b (refusal 10)
+      plans-10 e =
+          refused-by 10
+          (record { first = inr (s .given, inr (s .size, inr (s .unmarked, inr (below, inl (λ h. in-and-out h e, refl))))) })
 
-      module _ (marks : noneFrom (st .lost) (blocks l) ≡ true) where
-        pub plans-9 : blocks l ≤ b → Plans l st b (refusal 9)
-        plans-9 h =
-            refused-by 9
-            (record { first = inr (given, inr (range, inr (none-from (st .lost) (blocks l) .0 marks, inl (λ k. omega arith, refl)))) })
+      module _ (lost : marked (st .lost) b ≡ true) {a : Linear.Answer} (x : Coefficients l (st .lost) b a) where
+        pub plans-14 : a .found ≡ false → Plans l st b (refusal 14)
+        plans-14 e =
+            refused-by 14
+            (record { first = inr (s .given, inr (s .size, inr (s .unmarked, inr (below, inr (lost, inl (x .none e, refl)))))) })
 
-        module _ (below : b < blocks l) where
-          pub plans-10 : marked (st .lost) b ≡ false → Plans l st b (refusal 10)
-          plans-10 e =
-              refused-by 10
-              (record {
-                first = inr (given, inr (range, inr (none-from (st .lost) (blocks l) .0 marks, inr (below, inl (λ h. in-and-out h e, refl)))));
-              })
-
-          module _ (lost : marked (st .lost) b ≡ true) {a : Linear.Answer} (x : Coefficients l (st .lost) b a) where
-            pub plans-14 : a .found ≡ false → Plans l st b (refusal 14)
-            plans-14 e =
-                refused-by 14
-                (record {
-                  first = inr (given, inr (range, inr (none-from (st .lost) (blocks l) .0 marks, inr (below, inr (lost, inl (x .none e, refl))))));
-                })
-
-            pub plans-done : a .found ≡ true → (p : Plan) → p ≡ listOf (vec (a .coef)) 48 → Plans l st b (record { answer = Done; plan = p })
-            plans-done e p q =
-                record {
-                  verdict = record {
-                    first = inr (given, inr (range, inr (none-from (st .lost) (blocks l) .0 marks, inr (below, inr (lost, inr (has, refl))))));
-                  };
-                  plan = λ _. record {
-                    coef = vec (a .coef);
-                    plan = x .plan e;
-                    listed = q ∙ listOf-less (vec (a .coef)) (blocks l) 48 (given-proper l given .n) (x .past);
-                  };
-                  nothing = λ m o. let z : _≡_ {A = ℕ} 0 1 = cc in absurd (omega arith);
-                }
-              where
-                has : HasPlan (codeOf l (st .len)) (marked (st .lost)) b
-                has = has-plan-iff (codeOf l (st .len)) (code-proper l given (st .len)) (marked (st .lost)) b below .1 (vec (a .coef), x .plan e)
+        pub plans-done : a .found ≡ true → (p : Plan) → p ≡ listOf (vec (a .coef)) 48 → Plans l st b (record { answer = Done; plan = p })
+        plans-done e p q =
+            record {
+              verdict = record { first = inr (s .given, inr (s .size, inr (s .unmarked, inr (below, inr (lost, inr (has, refl)))))) };
+              plan = λ _. record {
+                coef = vec (a .coef);
+                plan = x .plan e;
+                listed = q ∙ listOf-less (vec (a .coef)) (blocks l) 48 (given-proper l (s .given) .n) (x .past);
+              };
+              nothing = λ m o. let z : _≡_ {A = ℕ} 0 1 = cc in absurd (omega arith);
+            }
+          where
+            has : HasPlan (codeOf l (st .len)) (marked (st .lost)) b
+            has = has-plan-iff (codeOf l (st .len)) (code-proper l (s .given) (st .len)) (marked (st .lost)) b below .1 (vec (a .coef), x .plan e)
 
 -- a plan reads at most 32 blocks
 pub reads-few : (l : Layout) → Given l → (lost b : ℕ) → b < blocks l → {a : Linear.Answer} → Coefficients l lost b a → a .found ≡ true

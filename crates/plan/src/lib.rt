@@ -6,6 +6,8 @@ ghost use Rattle.note.specs.Given.{Given};
 ghost use Rattle.rows.specs.Rows.{blocks};
 ghost use Rattle.linear.specs.Sets.{tally};
 ghost use Rattle.linear.specs.Solved.{vec, Survivors, Solved};
+ghost use Rattle.plan.specs.Codes.{InRange};
+ghost use Rattle.plan.specs.Front.{FrontSays};
 ghost use Rattle.plan.specs.Listing.{blank, offered, listOf};
 ghost use Rattle.plan.specs.Plans.{Plans, refusal};
 ghost use Rattle.plan.specs.Inner.{rowList, Coefficients};
@@ -107,6 +109,27 @@ pub fn coefficients(l: Layout, lost: u64, b: usize) -> linear::Answer
     solve_row(&matrix, &order, count, b)
 }
 
+// 6, 7 or 8 where it applies, in this order; otherwise 0. Of 7, L alone is asked.
+pub fn front(l: Layout, st: Standing) -> u8
+    ensures { λ r. ⌜ FrontSays l st (InRange (st .len)) r ⌝ }
+{
+    if !note::known(l) {
+        return 6;
+    }
+    let len = st.len;
+    if len < 1 {
+        return 7;
+    }
+    if 1024 < len {
+        return 7;
+    }
+    let n = l.k + l.r;
+    if !marks::none_from(st.lost, n) {
+        return 8;
+    }
+    0
+}
+
 fn refuse(number: u8) -> Planned
     ensures { λ r. ⌜ r ≡ refusal number ⌝ }
 {
@@ -121,24 +144,15 @@ fn refuse(number: u8) -> Planned
 pub fn plan_of(l: Layout, st: Standing, b: usize) -> Planned
     ensures { λ r. ⌜ Plans l st b r ⌝ }
 {
-    if !note::known(l) {
-        return refuse(6);
-    }
-    let len = st.len;
-    if len < 1 {
-        return refuse(7);
-    }
-    if 1024 < len {
-        return refuse(7);
+    let f = front(l, st);
+    if f != 0 {
+        return refuse(f);
     }
     let n = l.k + l.r;
-    let lost = st.lost;
-    if !marks::none_from(lost, n) {
-        return refuse(8);
-    }
     if n <= b {
         return refuse(9);
     }
+    let lost = st.lost;
     if !marks::holds(lost, b) {
         return refuse(10);
     }

@@ -8,6 +8,7 @@ use native.Mathlib.Omega.{arith}
 use lib.ListN.{length}
 use Rattle.linear.proofs.Sets.{in-and-out, insert-same, insert-other}
 use Rattle.note.specs.declared.Layout.{Layout}
+use Rattle.note.specs.Given.{Given}
 use Rattle.note.proofs.Facts.{given-proper}
 use Rattle.marks.specs.Marks.{marked, withMark}
 use Rattle.marks.proofs.Bits.{marked-with, marked-zero}
@@ -18,11 +19,21 @@ use Rattle.calls.specs.Calls.{Verdict, by, lose, encode, refused}
 use Rattle.plan.specs.declared.Standing.{Standing}
 use Rattle.plan.specs.declared.Answer.the-variants.{Done}
 use Rattle.plan.specs.Codes.{codeOf, InRange, front}
-use Rattle.stripe.specs.Front.{refusal, ShapeSays, FrontSays}
+use Rattle.plan.specs.Front.{FrontSays}
+use Rattle.stripe.specs.Front.{refusal, ShapeSays}
 use Rattle.pieces.specs.Pieces.{Encodable, EncodedList}
 use Rattle.stripe.specs.Stripes.{Sized, Encodes, Loses}
 use Rattle.pieces.proofs.Effects.{Renders, encoded}
-use Rattle.stripe.proofs.Fronts.{shape-given, shape-sized, shape-refused, front-refused, front-passed}
+use Rattle.plan.proofs.Fronts.{front-refused, front-passed}
+use Rattle.stripe.proofs.Fronts.{shape-given, shape-sized, shape-refused}
+
+-- ---- the layout's matrix
+
+-- a layout's matrix holds the rows of its code
+pub layout-renders : (l : Layout) → Given l → (L : ℕ) {rows : List ℕ} → Matrix l rows → Renders (codeOf l L) rows (l .k) (blocks l) L
+layout-renders l given L M =
+    let p = given-proper l given in
+    record { data-blocks = refl; blocks = refl; bytes = refl; row = λ b i h j. sym (M .rows b i (omega (arith, p .n)) (omega (arith, p .k))) }
 
 -- ---- a loss
 
@@ -89,13 +100,8 @@ module _ (l : Layout) (st : Standing) {xs : List ℕ} {m : ℕ} (s : ShapeSays l
         record {
           outcome = record {
             verdict = record { first = inr (shape-given s e, inr (shape-sized s e, refl)) };
-            effect = encoded (codeOf l (st .len)) renders encodable D (marked (st .lost)) (marked 0) marked-zero;
+            effect = encoded (codeOf l (st .len)) (layout-renders l (shape-given s e) (st .len) M) encodable D (marked (st .lost)) (marked 0) marked-zero;
           };
           len = refl;
           long = D .long;
         }
-      where
-        renders : Renders (codeOf l (st .len)) rows (l .k) (blocks l) (st .len)
-        renders =
-            let p = given-proper l (shape-given s e) in
-            record { data-blocks = refl; blocks = refl; bytes = refl; row = λ b i h j. sym (M .rows b i (omega (arith, p .n)) (omega (arith, p .k))) }

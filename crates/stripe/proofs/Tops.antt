@@ -25,24 +25,14 @@ use Rattle.plan.specs.Codes.{codeOf, front}
 use Rattle.plan.specs.Plans.{said}
 use Rattle.plan.specs.Inner.{Coefficients}
 use Rattle.plan.proofs.Codes.{code-proper}
-use Rattle.stripe.specs.Front.{FrontSays, refusal}
+use Rattle.plan.specs.Front.{FrontSays}
+use Rattle.stripe.specs.Front.{refusal}
 use Rattle.pieces.specs.Pieces.{Sources, Gathered, Others, Made, Correctable, CorrectedList}
 use Rattle.stripe.specs.Stripes.{Sized, RepairsOne, Corrects, Fetches}
-use Rattle.stripe.proofs.Fronts.{front-given, front-sized, front-unmarked, front-refused}
+use Rattle.plan.proofs.Fronts.{Sound, front-refused}
 use Rattle.pieces.proofs.Combining.{sources}
-use Rattle.pieces.proofs.Effects.{Renders, Planned, corrected, by-plan, repaired, plan-others}
-
--- ---- 6, 7 and 8
-
--- the needs 6, 7 and 8 are met
-pub record Sound (l : Layout) (st : Standing) (sized : Type 0) : Type 0 where
-  pub given : Given l
-  pub size : sized
-  pub unmarked : (b : ℕ) → blocks l ≤ b → marked (st .lost) b ≡ false
-
--- the number 0 says that they are
-pub says-sound : {P : Type 0} (l : Layout) (st : Standing) (f : ℕ) → FrontSays l st P f → f ≡ 0 → Sound l st P
-says-sound l st f says e = record { given = front-given says e; size = front-sized says e; unmarked = front-unmarked says e }
+use Rattle.pieces.proofs.Effects.{Planned, corrected, by-plan, repaired, plan-others}
+use Rattle.stripe.proofs.Answers.{layout-renders}
 
 -- ---- plans
 
@@ -224,16 +214,7 @@ module _ (l : Layout) (st : Standing) (i off : ℕ) (d xs : List ℕ) where
               record {
                 outcome = record {
                   verdict = record { first = inr (s .given, inr (s .size, inr (s .unmarked, inr (number, inr (here, inr (stays, refl)))))) };
-                  effect = corrected (codeOf l (st .len)) renders number D;
+                  effect = corrected (codeOf l (st .len)) (layout-renders l (s .given) (st .len) M) number D;
                 };
                 long = D .long;
               }
-            where
-              renders : Renders (codeOf l (st .len)) rows (l .k) (blocks l) (st .len)
-              renders =
-                  record {
-                    data-blocks = refl;
-                    blocks = refl;
-                    bytes = refl;
-                    row = λ b j h k. sym (M .rows b j (omega (arith, given-proper l (s .given) .n)) (omega (arith, given-proper l (s .given) .k)));
-                  }

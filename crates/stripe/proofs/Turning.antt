@@ -27,11 +27,11 @@ use Rattle.plan.proofs.Codes.{code-proper}
 use Rattle.plan.proofs.Verdicts.{not-yes, not-no}
 use Rattle.pieces.specs.Pieces.{Others, Made}
 use Rattle.stripe.specs.declared.Rebuilding.the-variants.{Whole, Denied, NoPlan}
-use Rattle.stripe.specs.Front.{FrontSays}
+use Rattle.plan.specs.Front.{FrontSays}
 use Rattle.stripe.specs.Turns.{Mendable, Lacks, LowestIs, Due, Turned, Ready, Restored}
 use Rattle.stripe.specs.Stripes.{Sized, RebuildsAll, told}
-use Rattle.stripe.proofs.Fronts.{front-refused}
-use Rattle.stripe.proofs.Tops.{Sound, has-plan, mendable, mended}
+use Rattle.plan.proofs.Fronts.{Sound, front-refused}
+use Rattle.stripe.proofs.Tops.{has-plan, mendable, mended}
 
 -- ---- judging
 

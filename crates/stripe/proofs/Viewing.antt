@@ -19,9 +19,10 @@ use Rattle.plan.specs.declared.Standing.{Standing}
 use Rattle.plan.specs.declared.Answer.the-variants.{Refused}
 use Rattle.plan.specs.Plans.{said}
 use Rattle.plan.specs.Inner.{Coefficients}
-use Rattle.stripe.specs.Front.{FrontSays}
+use Rattle.plan.specs.Front.{FrontSays}
 use Rattle.stripe.specs.Stripes.{Sized, Fetches, PartOf, Views}
-use Rattle.stripe.proofs.Tops.{Sound, fetches-front, fetches-9, fetches-13, fetches-present, fetches-14, fetch-planned}
+use Rattle.plan.proofs.Fronts.{Sound}
+use Rattle.stripe.proofs.Tops.{fetches-front, fetches-9, fetches-13, fetches-present, fetches-14, fetch-planned}
 
 -- ---- parts
 

@@ -2,9 +2,11 @@
 mod turns;
 
 ghost use mathlib.Core.Path.{_≡_};
+ghost use Prim.Native.Nat.{_+_, _≤_};
 ghost use lib.ListN.{length};
-ghost use Rattle.plan.specs.Codes.{InRange};
-ghost use Rattle.stripe.specs.Front.{refusal, ShapeSays, FrontSays};
+ghost use Rattle.note.specs.Given.{Tells};
+ghost use Rattle.plan.specs.Front.{FrontSays};
+ghost use Rattle.stripe.specs.Front.{refusal, ShapeSays};
 ghost use Rattle.stripe.specs.Stripes.{Sized, Encodes, Loses, RepairsOne, RebuildsAll, Corrects, Fetches, Views};
 use note::Layout;
 use plan::Answer;
@@ -74,27 +76,6 @@ fn front(l: Layout, st: Standing, size: usize) -> u8
     0
 }
 
-// The same where no stripe is lent: of 7, L alone is asked.
-fn front_alone(l: Layout, st: Standing) -> u8
-    ensures { λ r. ⌜ FrontSays l st (InRange (st .len)) r ⌝ }
-{
-    if !note::known(l) {
-        return 6;
-    }
-    let len = st.len;
-    if len < 1 {
-        return 7;
-    }
-    if 1024 < len {
-        return 7;
-    }
-    let n = l.k + l.r;
-    if !marks::none_from(st.lost, n) {
-        return 8;
-    }
-    0
-}
-
 // Writes every redundant block from the data as lent, and marks nothing lost.
 pub fn encode_by(l: Layout, st: Standing, stripe: &mut [u8]) -> Stood
     ensures { λ r. ⌜ Encodes l st (now (stripe .entry)) (now (stripe .exit)) r ⌝ }
@@ -119,7 +100,7 @@ pub fn encode_by(l: Layout, st: Standing, stripe: &mut [u8]) -> Stood
 pub fn lose_by(l: Layout, st: Standing, b: usize) -> Stood
     ensures { λ r. ⌜ Loses l st b r ⌝ }
 {
-    let f = front_alone(l, st);
+    let f = plan::front(l, st);
     if f != 0 {
         return refuse(st, f);
     }
@@ -205,6 +186,19 @@ pub fn rebuild_by(l: Layout, st: Standing, stripe: &mut [u8]) -> Rebuilt
     }
 }
 
+// Whether m bytes from off on stay below len. No sum is made, so none wraps.
+fn stays(off: usize, m: usize, len: usize) -> bool
+    ensures { λ r. ⌜ Tells r (off + m ≤ len) ⌝ }
+{
+    if len < m {
+        return false;
+    }
+    if len - m < off {
+        return false;
+    }
+    true
+}
+
 // Lays a difference into data block i at an offset, and its multiples into the surviving redundant blocks.
 pub fn correct_by(
     l: Layout,
@@ -228,11 +222,7 @@ pub fn correct_by(
         return Answer::Refused(11);
     }
     let len = st.len;
-    let m = diff.len();
-    if len < m {
-        return Answer::Refused(12);
-    }
-    if len - m < off {
+    if !stays(off, diff.len(), len) {
         return Answer::Refused(12);
     }
     let n = l.k + l.r;

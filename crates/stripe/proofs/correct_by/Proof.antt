@@ -4,7 +4,9 @@ use mathlib.Core.Path.{_∙_, sym}
 use native.Mathlib.Omega.{arith}
 use borrow.Author.Needs.{needs}
 use Rattle.note.proofs.Facts.{given-proper}
-use Rattle.stripe.proofs.Tops.{says-sound, corrects-front, corrects-9, corrects-11, corrects-12, correct-able, corrects-done}
+use Rattle.plan.proofs.Fronts.{says-sound}
+use Rattle.plan.proofs.Verdicts.{told-yes, told-no}
+use Rattle.stripe.proofs.Tops.{corrects-front, corrects-9, corrects-11, corrects-12, correct-able, corrects-done}
 use Rattle.stripe.proofs.correct_by.Statement.{statement}
 use Rattle.stripe.proofs.correct_by.Tie as tie
 
@@ -37,21 +39,17 @@ returns-3 c =
     let sound = says-sound (start .args .l) (start .args .st) (tested .before .before .before .front .result) (tested .before .before .before .front .ensures) (tested .before .before .if1 .left) in
     corrects-11 (start .args .l) (start .args .st) (start .args .i) (start .args .off) _ _ sound (tested .if2 .left) (sym (c .before .holds .ensures) ∙ c .if3 .taken)
 
+stays-requires : tie.Need-stays-requires
+stays-requires c κs = search needs
+
 returns-4 : tie.Need-returns-4
 returns-4 c =
-    let asked = c .before in
-    let tested = asked .before .before in
-    let start = tested .before .before .before .before .before .before in
-    let sound = says-sound (start .args .l) (start .args .st) (tested .before .before .before .front .result) (tested .before .before .before .front .ensures) (tested .before .before .if1 .left) in
-    corrects-12 (start .args .l) (start .args .st) (start .args .i) (start .args .off) _ _ sound (tested .if2 .left) (sym (asked .before .holds .ensures) ∙ asked .if3 .left) (λ h. omega (arith, c .if4 .taken))
-
-returns-5 : tie.Need-returns-5
-returns-5 c =
     let asked = c .before .before in
     let tested = asked .before .before in
     let start = tested .before .before .before .before .before .before in
     let sound = says-sound (start .args .l) (start .args .st) (tested .before .before .before .front .result) (tested .before .before .before .front .ensures) (tested .before .before .if1 .left) in
-    corrects-12 (start .args .l) (start .args .st) (start .args .i) (start .args .off) _ _ sound (tested .if2 .left) (sym (asked .before .holds .ensures) ∙ asked .if3 .left) (λ h. omega (arith, c .if5 .taken, c .before .if4 .left))
+    corrects-12 (start .args .l) (start .args .st) (start .args .i) (start .args .off) _ _ sound (tested .if2 .left) (sym (asked .before .holds .ensures) ∙ asked .if3 .left)
+    (told-no (c .before .stays .result) (c .before .stays .ensures) (c .if4 .taken))
 
 add-n : tie.Need-add-n
 add-n c =
@@ -80,19 +78,21 @@ correct-all-requires c κs =
     let tested = asked .before .before in
     let start = tested .before .before .before .before .before .before in
     let sound = says-sound (start .args .l) (start .args .st) (tested .before .before .before .front .result) (tested .before .before .before .front .ensures) (tested .before .before .if1 .left) in
-    correct-able (start .args .l) (start .args .st) (start .args .i) (start .args .off) _ _ sound (tested .if2 .left) (sym (asked .before .holds .ensures) ∙ asked .if3 .left) (omega (arith, fits .if5 .left, fits .before .if4 .left)) _ (c .before .before .before .matrix2 .ensures)
+    correct-able (start .args .l) (start .args .st) (start .args .i) (start .args .off) _ _ sound (tested .if2 .left) (sym (asked .before .holds .ensures) ∙ asked .if3 .left)
+    (told-yes (fits .before .stays .result) (fits .before .stays .ensures) (fits .if4 .left)) _ (c .before .before .before .matrix2 .ensures)
 
 same-length : tie.Need-same-length
 same-length c = search needs
 
-returns-6 : tie.Need-returns-6
-returns-6 c =
+returns-5 : tie.Need-returns-5
+returns-5 c =
     let fits = c .before .before .before .before .before .before .before .before .before in
     let asked = fits .before .before in
     let tested = asked .before .before in
     let start = tested .before .before .before .before .before .before in
     let sound = says-sound (start .args .l) (start .args .st) (tested .before .before .before .front .result) (tested .before .before .before .front .ensures) (tested .before .before .if1 .left) in
-    corrects-done (start .args .l) (start .args .st) (start .args .i) (start .args .off) _ _ sound (tested .if2 .left) (sym (asked .before .holds .ensures) ∙ asked .if3 .left) (omega (arith, fits .if5 .left, fits .before .if4 .left)) _ (c .before .before .before .before .before .before .matrix2 .ensures) _ (c .before .before .correct-all .ensures)
+    corrects-done (start .args .l) (start .args .st) (start .args .i) (start .args .off) _ _ sound (tested .if2 .left) (sym (asked .before .holds .ensures) ∙ asked .if3 .left)
+    (told-yes (fits .before .stays .result) (fits .before .stays .ensures) (fits .if4 .left)) _ (c .before .before .before .before .before .before .matrix2 .ensures) _ (c .before .before .correct-all .ensures)
 
 pub correct-by-spec : {M : Type 1} → statement M
 correct-by-spec =
@@ -103,12 +103,12 @@ correct-by-spec =
     returns-2
     holds-requires
     returns-3
+    stays-requires
     returns-4
-    returns-5
     add-n
     slice-aggregate-matrix
     matrix-requires
     slice-aggregate-correct-all
     correct-all-requires
     same-length
-    returns-6)
+    returns-5)

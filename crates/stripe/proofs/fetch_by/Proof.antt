@@ -4,7 +4,8 @@ use native.Mathlib.Omega.{arith}
 use borrow.Author.Needs.{needs}
 use Rattle.note.proofs.Facts.{given-proper}
 use Rattle.plan.proofs.Verdicts.{not-yes, not-no}
-use Rattle.stripe.proofs.Tops.{says-sound, fetches-front, fetches-9, fetches-13, fetches-present, fetches-14, plan-sources, fetches-done}
+use Rattle.plan.proofs.Fronts.{says-sound}
+use Rattle.stripe.proofs.Tops.{fetches-front, fetches-9, fetches-13, fetches-present, fetches-14, plan-sources, fetches-done}
 use Rattle.stripe.proofs.fetch_by.Statement.{statement}
 use Rattle.stripe.proofs.fetch_by.Tie as tie
 

@@ -5,7 +5,8 @@ use borrow.Author.Needs.{needs}
 use Rattle.note.specs.Given.{Given}
 use Rattle.note.proofs.Facts.{given-proper}
 use Rattle.plan.proofs.Verdicts.{not-yes, not-no}
-use Rattle.stripe.proofs.Fronts.{shape-given, shape-sized, front-shape, front-8, front-0}
+use Rattle.plan.proofs.Fronts.{front-8, front-0}
+use Rattle.stripe.proofs.Fronts.{shape-given, shape-sized, front-shape}
 use Rattle.stripe.proofs.front.Statement.{statement}
 use Rattle.stripe.proofs.front.Tie as tie
 

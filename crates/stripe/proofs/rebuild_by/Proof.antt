@@ -3,7 +3,7 @@ use mathlib.Core.Path.{refl}
 use native.Mathlib.Omega.{arith}
 use borrow.Author.Needs.{needs}
 use Rattle.note.proofs.Facts.{given-proper}
-use Rattle.stripe.proofs.Tops.{says-sound}
+use Rattle.plan.proofs.Fronts.{says-sound}
 use Rattle.stripe.proofs.Turning.{rebuilds-front, rebuilds-named, rebuild-ready, rebuilds-done}
 use Rattle.stripe.proofs.rebuild_by.Statement.{statement}
 use Rattle.stripe.proofs.rebuild_by.Tie as tie

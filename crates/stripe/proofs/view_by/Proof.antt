@@ -4,7 +4,7 @@ use native.Mathlib.Omega.{arith}
 use borrow.Author.Needs.{needs}
 use Rattle.note.proofs.Facts.{given-proper}
 use Rattle.plan.proofs.Verdicts.{not-yes, not-no}
-use Rattle.stripe.proofs.Tops.{says-sound}
+use Rattle.plan.proofs.Fronts.{says-sound}
 use Rattle.stripe.proofs.Viewing.{first-part, middle-part, views-front, views-9, inside, views-13, views-present, views-lost, views-14}
 use Rattle.stripe.proofs.view_by.Statement.{statement}
 use Rattle.stripe.proofs.view_by.Tie as tie

@@ -1,14 +1,14 @@
--- Proved: `front_alone` meets its contract: each test is a need, in the order of the table.
+-- Proved: `front` meets its contract: each test is a need, in the order of the table.
 use mathlib.Core.Path.{_∙_, sym}
 use native.Mathlib.Omega.{arith}
 use borrow.Author.Needs.{needs}
 use Rattle.note.specs.Given.{Given}
 use Rattle.note.proofs.Facts.{given-proper}
 use Rattle.plan.specs.Codes.{InRange}
 use Rattle.plan.proofs.Verdicts.{told-yes, told-no, not-yes, not-no}
-use Rattle.stripe.proofs.Fronts.{front-6, front-7, front-8, front-0}
-use Rattle.stripe.proofs.front_alone.Statement.{statement}
-use Rattle.stripe.proofs.front_alone.Tie as tie
+use Rattle.plan.proofs.Fronts.{front-6, front-7, front-8, front-0}
+use Rattle.plan.proofs.front.Statement.{statement}
+use Rattle.plan.proofs.front.Tie as tie
 
 -- past the first test the layout is a given one,
 given : (c : tie.Else1) → Given (c .before .before .args .l)
@@ -46,8 +46,8 @@ returns-5 c =
     front-0 (given (c .before .before .before .before .before)) (range (c .before .before .before))
     (sym (c .before .none-from .ensures) ∙ not-yes (c .before .none-from .result) (c .if4 .left))
 
-pub front-alone-spec : {M : Type 1} → statement M
-front-alone-spec =
+pub front-spec : {M : Type 1} → statement M
+front-spec =
     tie.close
     (tie.spec
     known-requires
