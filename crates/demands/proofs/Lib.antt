@@ -1,0 +1,5 @@
+pub mod OneOutcome
+pub mod Rows
+pub mod Demand1
+pub mod Demand2
+pub mod Worked

@@ -1,0 +1,3 @@
+pub mod Table
+pub mod Demand2
+pub mod Runs

@@ -1,0 +1,39 @@
+-- Believed: demand 3 over the store's own calls: runs of losses, repairs and corrections on a stripe with its standing, one layout kept throughout.
+use mathlib.Core.Path.{_≡_}
+use mathlib.Core.List.{List, [], _∷_}
+use Prim.Native.Nat.{ℕ, _<_}
+use lib.ListN.{length, getD}
+use Rattle.note.specs.declared.Layout.{Layout}
+use Rattle.calls.specs.Calls.{lose, repair, correct}
+use Rattle.calls.specs.Demands.{Alike, Turn}
+use Rattle.plan.specs.declared.Standing.{Standing}
+use Rattle.plan.specs.declared.Answer.{Answer}
+use Rattle.plan.specs.Codes.{codeOf}
+use Rattle.plan.specs.Plans.{said}
+use Rattle.plan.specs.Front.{numbered}
+use Rattle.stripe.specs.Stripes.{stripeOf}
+use Rattle.store.specs.declared.Said.{Said}
+use Rattle.store.specs.Store.{Lose, Repair, Correct}
+
+-- "survivors and the list of lost blocks being changed by nothing else": the standing st stays, and from xs to ys nothing changed but bytes standing
+-- where a lost block was
+pub record Between (l : Layout) (st : Standing) (xs ys : List ℕ) : Type 0 where
+  pub long : length ys ≡ length xs
+  pub alike : Alike (codeOf l (st .len)) (stripeOf st xs) (stripeOf st ys)
+
+-- calls of the store, each with its answer, lead from the standing st and the stripe xs to u and zs
+pub data Runs (l : Layout) : Standing → List ℕ → List Turn → Standing → List ℕ → Type 0 where
+  rest : {st : Standing} {xs ys : List ℕ} → Between l st xs ys → Runs l st xs [] st ys
+  loss : {st st′ u : Standing} {xs ys zs : List ℕ} {gs : List Turn} {b : ℕ} {r : Said}
+      → Between l st xs ys → Lose l st b r st′ → Runs l st′ ys gs u zs
+      → Runs l st xs (record { call = lose b; answer = numbered (r .number) } ∷ gs) u zs
+  mend : {st st′ u : Standing} {xs ys ys′ zs : List ℕ} {gs : List Turn} {b : ℕ} {r : Said}
+      → Between l st xs ys → Repair l st ys b r st′ ys′ → Runs l st′ ys′ gs u zs
+      → Runs l st xs (record { call = repair b; answer = numbered (r .number) } ∷ gs) u zs
+  amend : {st u : Standing} {xs ys ys′ zs : List ℕ} {gs : List Turn} {i off : ℕ} {d : List ℕ} {a : Answer}
+      → Between l st xs ys → Correct l st ys i off d a ys′ → Runs l st ys′ gs u zs
+      → Runs l st xs (record { call = correct i off d; answer = said a } ∷ gs) u zs
+
+-- every element is a byte
+abbrev pub Small : List ℕ → Type 0
+Small xs = (i : ℕ) → getD xs i 0 < 256
