@@ -98,7 +98,7 @@ reorder (List·Permᴰ·trans d d′) gs e =
     let r′ = reorder d′ (r .0) (r .1) in
     (r′ .0, r′ .1, List·Permᴰ·trans (r .2) (r′ .2))
 
-turn-path : {g h : Turn} → g .call ≡ h .call → g .answer ≡ h .answer → g ≡ h
+pub turn-path : {g h : Turn} → g .call ≡ h .call → g .answer ≡ h .answer → g ≡ h
 turn-path p q = λ i. record { call = p i; answer = q i }
 
 module _ (c : Code) (lost : ℕ → Bool) where

@@ -43,7 +43,7 @@ module _ (c : Code) where
   pub alike-self : (s : Stripe) → Alike c s s
   alike-self s = record { marks = λ b. refl; bytes = λ b x l o k. refl }
 
-  alike-trans : {s r t : Stripe} → Alike c s r → Alike c r t → Alike c s t
+  pub alike-trans : {s r t : Stripe} → Alike c s r → Alike c r t → Alike c s t
   alike-trans A B = record { marks = λ b. B .marks b ∙ A .marks b; bytes = λ b x l o k. B .bytes b x l (A .marks b ∙ o) k ∙ A .bytes b x l o k }
 
   alike-run : {s t u : Stripe} {gs : List Turn} → Alike c s t → Run c t gs u → Run c s gs u

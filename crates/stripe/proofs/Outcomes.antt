@@ -52,7 +52,7 @@ told-one (NoPlan b) Whole e = absurd (undone _ (sym e))
 told-one (NoPlan b) (Denied n) e = let z : _≡_ {A = ℕ} 0 1 = cc in absurd (omega arith)
 told-one (NoPlan b) (NoPlan c) e = let f : b ≡ c = cc in ap NoPlan f
 
-standing-one : {st u : Standing} → u .len ≡ st .len → ((b : ℕ) → marked (u .lost) b ≡ marked (st .lost) b) → st ≡ u
+pub standing-one : {st u : Standing} → u .len ≡ st .len → ((b : ℕ) → marked (u .lost) b ≡ marked (st .lost) b) → st ≡ u
 standing-one {st} {u} e h i = record { len = sym e i; lost = marked-unique (st .lost) (u .lost) (λ b. sym (h b)) i }
 
 stood-one : {r r′ : Stood} → said (r .answer) ≡ said (r′ .answer) → r .standing ≡ r′ .standing → r ≡ r′
