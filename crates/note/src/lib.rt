@@ -1,5 +1,5 @@
 // The layout note of document 01: reading one, and telling which layouts notes give.
-mod reader;
+pub mod reader;
 mod same;
 mod writer;
 

@@ -1,0 +1,60 @@
+// The reader of a note: a reference to the note's bytes, and a cursor. It is started, reads the group at its place, any place, and is moved behind it.
+use note::reader::Walk;
+ghost use mathlib.Core.Path.{_≡_};
+ghost use Rattle.store.specs.Reader.{started, movedTo, groupFrom, groupHere};
+
+pub struct Reader<'a> {
+    pub note: &'a [u8],
+    pub at: usize,
+}
+
+// The group whose record starts at `at`, read as a top record: its layout, the place behind it, and the fault found (0: none), whose offset is then the place.
+fn group_at(note: &[u8], at: usize) -> Walk
+    ensures { λ w. ⌜ w ≡ groupFrom (now (note .entry)) at ⌝ }
+{
+    let none = note::reader::empty();
+    if note.len() < at {
+        return Walk {
+            lay: none,
+            at: at,
+            fault: 1,
+        };
+    }
+    let w = Walk {
+        lay: none,
+        at: at,
+        fault: 0,
+    };
+    note::reader::read_group(note, w, note.len(), 1, 0)
+}
+
+// The reader at the first byte of a note.
+pub fn start<'a>(note: &'a [u8]) -> Reader<'a>
+    ensures { λ r. ⌜ r ≡ started (note .entry) ⌝ }
+{
+    Reader { note: note, at: 0 }
+}
+
+// The group at the reader's place.
+pub fn group<'a>(r: Reader<'a>) -> Walk
+    ensures { λ w. ⌜ w ≡ groupHere (r .entry) ⌝ }
+{
+    group_at(r.note, r.at)
+}
+
+// The reader at another place of the same note: behind a group that it read, at `group(r).at`.
+pub fn moved<'a>(r: Reader<'a>, at: usize) -> Reader<'a>
+    ensures { λ q. ⌜ q ≡ movedTo at (r .entry) ⌝ }
+{
+    Reader {
+        note: r.note,
+        at: at,
+    }
+}
+
+// The first group of a note.
+pub fn top(note: &[u8]) -> Walk
+    ensures { λ w. ⌜ w ≡ groupFrom (now (note .entry)) 0 ⌝ }
+{
+    group(start(note))
+}
