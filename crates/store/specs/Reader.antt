@@ -12,8 +12,8 @@ use Rattle.store.specs.declared.reader.Reader.{Reader}
 abbrev pub walkAt : ℕ → Walk
 walkAt at = record { lay = blank; at = at; fault = 0 }
 
--- the group at the place `at` of the note s, read as a top record: nesting 1, no rows round it, and it may run to the end of the note. At a place past the
--- end: 1, fewer than 4 bytes remain
+-- the group at the place `at` of the note s, read as a top record: nesting 1, no rows round it, and it may run to the end of the note. Past the end: 1,
+-- fewer than 4 bytes remain
 unfoldable pub groupFrom : List ℕ → ℕ → Walk
 groupFrom s at =
     ifLt (length s) at
@@ -28,6 +28,6 @@ started note = record { note = note; at = 0 }
 abbrev pub groupHere : Reader → Walk
 groupHere r = groupFrom (now (r .note)) (r .at)
 
--- the reader at another place of the same note
-abbrev pub movedTo : ℕ → Reader → Reader
-movedTo at r = record { note = r .note; at = at }
+-- the reader moved behind the group at its place, or to the offset of the fault
+abbrev pub pastGroup : Reader → Reader
+pastGroup r = record { note = r .note; at = groupHere r .at }

@@ -1,8 +1,9 @@
-// The reader of a note: a reference to the note's bytes, and a cursor. It is started, reads the group at its place, any place, and is moved behind it.
+// The reader of a note: it is started, reads the group at its place, any place, and is moved behind it.
 use note::reader::Walk;
 ghost use mathlib.Core.Path.{_≡_};
-ghost use Rattle.store.specs.Reader.{started, movedTo, groupFrom, groupHere};
+ghost use Rattle.store.specs.Reader.{groupFrom, started, groupHere, pastGroup};
 
+// A reference to the note's bytes, and a cursor.
 pub struct Reader<'a> {
     pub note: &'a [u8],
     pub at: usize,
@@ -13,19 +14,24 @@ fn group_at(note: &[u8], at: usize) -> Walk
     ensures { λ w. ⌜ w ≡ groupFrom (now (note .entry)) at ⌝ }
 {
     let none = note::reader::empty();
-    if note.len() < at {
-        return Walk {
-            lay: none,
-            at: at,
-            fault: 1,
-        };
-    }
-    let w = Walk {
+    let mut w = Walk {
         lay: none,
         at: at,
         fault: 0,
     };
+    if note.len() < at {
+        w.fault = 1;
+        return w;
+    }
     note::reader::read_group(note, w, note.len(), 1, 0)
+}
+
+// The place behind that group, or the offset of the fault.
+fn reached(note: &[u8], at: usize) -> usize
+    ensures { λ n. ⌜ n ≡ groupFrom (now (note .entry)) at .at ⌝ }
+{
+    let w = group_at(note, at);
+    w.at
 }
 
 // The reader at the first byte of a note.
@@ -42,13 +48,13 @@ pub fn group<'a>(r: Reader<'a>) -> Walk
     group_at(r.note, r.at)
 }
 
-// The reader at another place of the same note: behind a group that it read, at `group(r).at`.
-pub fn moved<'a>(r: Reader<'a>, at: usize) -> Reader<'a>
-    ensures { λ q. ⌜ q ≡ movedTo at (r .entry) ⌝ }
+// The reader moved behind the group at its place, or to the offset of the fault.
+pub fn behind<'a>(r: Reader<'a>) -> Reader<'a>
+    ensures { λ q. ⌜ q ≡ pastGroup (r .entry) ⌝ }
 {
     Reader {
         note: r.note,
-        at: at,
+        at: reached(r.note, r.at),
     }
 }
 
