@@ -16,10 +16,10 @@
 //   F block  fetch
 //   V block  view
 //   T        the pattern count of the layout
+mod calling;
 mod lines;
 mod patterns;
 mod show;
-mod store;
 
 ghost use mathlib.Core.Path.{_≡_};
 ghost use Prim.Native.Nat.{_≤_};
@@ -143,7 +143,7 @@ fn change(letter: u8, bytes: &[u8], s: Kept, stripe: &mut [u8]) -> Kept
     let l = q.layout;
     let st = q.standing;
     let m = q.stripe;
-    let after = store::change(letter, bytes, l, st, &mut stripe[0..m]);
+    let after = calling::change(letter, bytes, l, st, &mut stripe[0..m]);
     q.standing = after;
     q
 }
@@ -157,8 +157,8 @@ fn look(letter: u8, b: u8, s: Kept, stripe: &mut [u8], spare: &mut [u8])
     let m = s.stripe;
     let n = s.spare;
     match letter {
-        b'F' => store::fetch(l, st, &stripe[0..m], &mut spare[0..n], b),
-        b'V' => store::view(l, st, &stripe[0..m], &spare[0..n], b),
+        b'F' => calling::fetch(l, st, &stripe[0..m], &mut spare[0..n], b),
+        b'V' => calling::view(l, st, &stripe[0..m], &spare[0..n], b),
         b'T' => patterns::count(l),
         _ => show::unknown(),
     }
