@@ -1,0 +1,7 @@
+pub mod Puts
+pub mod Digits
+pub mod Numbers
+pub mod Parts
+pub mod Lines
+pub mod Reports
+pub mod OneText
