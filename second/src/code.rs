@@ -133,7 +133,7 @@ pub fn is_lost(lost: u64, block: usize) -> bool {
 #[cfg(test)]
 mod tests {
     use super::*;
-    use crate::note::{read, tests::SAMPLE};
+    use crate::note::{read, SAMPLE};
 
     #[test]
     fn worked_rows() {

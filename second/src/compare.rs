@@ -10,7 +10,7 @@ use std::thread;
 use crate::{depot, inputs};
 
 /// How many inputs are run at the same time.
-const WORKERS: usize = 2;
+pub const WORKERS: usize = 2;
 
 pub struct Program {
     pub name: String,
@@ -33,15 +33,28 @@ pub struct Tally {
 }
 
 /// The work shared by the workers: the next input, and the lowest difference.
-struct Queue {
+pub struct Queue {
     next: AtomicU64,
     lowest: AtomicU64,
     count: u64,
 }
 
 impl Queue {
+    pub fn new(count: u64) -> Queue {
+        Queue {
+            next: AtomicU64::new(0),
+            lowest: AtomicU64::new(u64::MAX),
+            count,
+        }
+    }
+
+    /// Notes a difference: no input after it is needed.
+    pub fn found(&self, index: u64) {
+        self.lowest.fetch_min(index, Ordering::SeqCst);
+    }
+
     /// An index below the lowest difference, while there is one.
-    fn take(&self) -> Option<u64> {
+    pub fn take(&self) -> Option<u64> {
         let index = self.next.fetch_add(1, Ordering::SeqCst);
         let end = self.lowest.load(Ordering::SeqCst).min(self.count);
         (index < end).then_some(index)
@@ -49,7 +62,7 @@ impl Queue {
 }
 
 impl Program {
-    fn run(&self, input: &[u8]) -> io::Result<(Vec<u8>, ExitStatus)> {
+    pub fn run(&self, input: &[u8]) -> io::Result<(Vec<u8>, ExitStatus)> {
         let mut child = Command::new(&self.name)
             .args(&self.arguments)
             .stdin(Stdio::piped())
@@ -135,11 +148,7 @@ pub fn compare(
     count: u64,
     program: &Program,
 ) -> io::Result<(Tally, Option<Difference>)> {
-    let queue = Queue {
-        next: AtomicU64::new(0),
-        lowest: AtomicU64::new(u64::MAX),
-        count,
-    };
+    let queue = Queue::new(count);
     let results: Vec<io::Result<(Tally, Option<Difference>)>> = thread::scope(|scope| {
         let work = || scope.spawn(|| work_off(seed, &queue, program));
         let workers: Vec<_> = (0..WORKERS).map(|_| work()).collect();
@@ -170,7 +179,7 @@ fn work_off(
         tally.bad_ends += usize::from(!status.success());
         let killed = status.code().is_none();
         if killed || found != expected.as_bytes() {
-            queue.lowest.fetch_min(index, Ordering::SeqCst);
+            queue.found(index);
             let mut found = String::from_utf8_lossy(&found).into_owned();
             if killed {
                 found += &format!("({status})\n");

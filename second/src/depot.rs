@@ -55,6 +55,7 @@ fn store_of(layout: Group, rest: &[u8]) -> Result<Store, u8> {
     };
     Ok(Store {
         layout,
+        altered: false,
         standing,
         stripe: stripe.to_vec(),
         spare: Vec::new(),
@@ -74,7 +75,7 @@ fn plan_text(store: &Store, block: usize) -> String {
 #[cfg(test)]
 mod tests {
     use super::*;
-    use crate::note::tests::SAMPLE;
+    use crate::note::SAMPLE;
     use crate::plan::tests::marks;
 
     fn input(note: &[u8], length: u16, lost: u64, stripe: usize) -> Vec<u8> {

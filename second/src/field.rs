@@ -23,11 +23,17 @@ pub fn multiply(a: u8, b: u8) -> u8 {
     product as u8
 }
 
-/// The byte whose product with `a` is 1, found by trying all.
+/// The byte whose product with `a` is 1: the power 254 of `a`, as the power
+/// 255 of every byte but 0 is 1.
 pub fn inverse(a: u8) -> u8 {
-    (1..=255)
-        .find(|&b| multiply(a, b) == 1)
-        .expect("zero has no inverse")
+    assert!(a != 0, "zero has no inverse");
+    let mut square = a;
+    let mut power = 1;
+    for _ in 0..7 {
+        square = multiply(square, square);
+        power = multiply(power, square);
+    }
+    power
 }
 
 /// The sum of the products of two lists, element by element.

@@ -254,7 +254,7 @@ fn some_length(random: &mut Random) -> usize {
 
 /// A pattern of lost blocks: none, few, about as many as are redundant, a
 /// run of neighbours, most or all.
-fn some_marks(random: &mut Random, data: usize, blocks: usize) -> u64 {
+pub fn some_marks(random: &mut Random, data: usize, blocks: usize) -> u64 {
     let spare = blocks - data;
     let size = match random.below(12) {
         0 => 0,
@@ -357,6 +357,49 @@ fn wrong_body(random: &mut Random, top: &mut Record) {
             record.members.clear();
             record.head.clear();
         }
+    }
+}
+
+/// A note that is accepted.
+pub fn sound_note(random: &mut Random) -> Vec<u8> {
+    sound_tree(random).bytes()
+}
+
+/// A note that passes a bound by one.
+pub fn over_note(random: &mut Random) -> Vec<u8> {
+    let which = random.below(5);
+    let aim = over_aim(random, which);
+    tree(random, &aim).bytes()
+}
+
+/// A note with one or two damages, or bytes behind it, or a cut. Some of
+/// these are accepted all the same.
+pub fn damaged_note(random: &mut Random) -> Vec<u8> {
+    let mut top = sound_tree(random);
+    match random.below(8) {
+        0 => return truncated(random),
+        1 => {
+            let mut note = top.bytes();
+            let size = random.between(1, 7);
+            note.extend(random.bytes(size));
+            return note;
+        }
+        2 => return over_note(random),
+        3 => nested_or_long(random, &mut top),
+        4 | 5 => wrong_body(random, &mut top),
+        _ => random.pick(&DAMAGES)(random, &mut top),
+    }
+    if random.chance(30) {
+        random.pick(&DAMAGES)(random, &mut top);
+    }
+    top.bytes()
+}
+
+/// A tree that nests too deep, or one with far too many members.
+fn nested_or_long(random: &mut Random, top: &mut Record) {
+    *top = Record::branch(random.pick(&[2, 15, 16, 41]));
+    for _ in 0..random.between(0, 6) {
+        *top = Record::new(2, vec![0], vec![Record::leaf(), top.clone()]);
     }
 }
 

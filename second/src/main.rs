@@ -1,7 +1,7 @@
 //! A second program for the erasure-coded block store, written from its
 //! definition alone, to compare the proved store with. It is slow and clear,
 //! and goes other ways where there are others: products by shift and reduce,
-//! inverses by search, groups named by paths, plans by comparing ranks.
+//! inverses by powers, groups named by paths, plans by one reduced matrix.
 //!
 //!   second depot-text
 //!       reads an input on standard input and writes the text the store's
@@ -11,41 +11,70 @@
 //!       prints the first difference and ends with 1, or a tally and 0
 //!   second depot-input SEED INDEX
 //!       writes one of these inputs, to look into a difference
+//!   second drill-text
+//!       reads a script on standard input and writes the answers
+//!   second compare-drill SEED COUNT PROGRAM [ARGS..]
+//!       the same comparison with COUNT scripts, line by line
+//!   second drill-script SEED INDEX
+//!       writes one of these scripts
+//!   second drill-sample
+//!       writes one script with every letter and every refusal of every call
+//!   second figures
+//!       counts the patterns of lost blocks that have plans throughout
 //!
 //! A wrong command line, or a program that cannot be run, ends with 2.
 //! field.rs, note.rs, code.rs, plan.rs, store.rs and depot.rs are the store;
-//! random.rs, inputs.rs and compare.rs make the comparison.
+//! commands.rs and drill.rs run scripts; random.rs, inputs.rs and compare.rs
+//! make the comparison of the program, scripts.rs and drill_compare.rs that
+//! of scripts; figures.rs counts.
 
 use std::io::{self, Read, Write};
 use std::process::ExitCode;
 
 use second::compare::{compare, hex, Difference, Program};
-use second::{depot, inputs};
+use second::{depot, drill, drill_compare, figures, inputs, scripts};
 
 const USAGE: &str = "usage: second depot-text
        second compare-depot SEED COUNT PROGRAM [ARGS..]
-       second depot-input SEED INDEX";
+       second depot-input SEED INDEX
+       second drill-text
+       second compare-drill SEED COUNT PROGRAM [ARGS..]
+       second drill-script SEED INDEX
+       second drill-sample
+       second figures";
 
 fn main() -> ExitCode {
     let arguments: Vec<String> = std::env::args().skip(1).collect();
     let words: Vec<&str> = arguments.iter().map(String::as_str).collect();
     let done = match words[..] {
-        ["depot-text"] => depot_text(),
-        ["depot-input", seed, index] => match (seed.parse(), index.parse()) {
-            (Ok(seed), Ok(index)) => io::stdout().write_all(&inputs::input(seed, index)),
-            _ => return usage(),
-        },
-        ["compare-depot", seed, count, name, ..] => match (seed.parse(), count.parse()) {
-            (Ok(seed), Ok(count)) => {
-                let program = Program {
-                    name: name.to_string(),
-                    arguments: arguments[4..].to_vec(),
-                };
-                return compare_depot(seed, count, &program);
-            }
-            _ => return usage(),
-        },
-        _ => return usage(),
+        ["depot-text"] => answer(u64::MAX, depot::text),
+        ["drill-text"] => answer(drill::MOST_SCRIPT as u64, drill::text),
+        ["drill-sample"] => io::stdout().write_all(&scripts::sample()),
+        ["figures"] => io::stdout().write_all(figures::text().as_bytes()),
+        [what @ ("depot-input" | "drill-script"), seed, index] => {
+            let (Ok(seed), Ok(index)) = (seed.parse(), index.parse()) else {
+                return fail(USAGE);
+            };
+            let bytes = match what {
+                "depot-input" => inputs::input(seed, index),
+                _ => scripts::script(seed, index),
+            };
+            io::stdout().write_all(&bytes)
+        }
+        [what @ ("compare-depot" | "compare-drill"), seed, count, name, ..] => {
+            let (Ok(seed), Ok(count)) = (seed.parse(), count.parse()) else {
+                return fail(USAGE);
+            };
+            let program = Program {
+                name: name.to_string(),
+                arguments: arguments[4..].to_vec(),
+            };
+            return match what {
+                "compare-depot" => compare_depot(seed, count, &program),
+                _ => compare_drill(seed, count, &program),
+            };
+        }
+        _ => return fail(USAGE),
     };
     match done {
         Ok(()) => ExitCode::SUCCESS,
@@ -53,19 +82,16 @@ fn main() -> ExitCode {
     }
 }
 
-fn usage() -> ExitCode {
-    fail(USAGE)
-}
-
 fn fail(message: &str) -> ExitCode {
     eprintln!("{message}");
     ExitCode::from(2)
 }
 
-fn depot_text() -> io::Result<()> {
+/// Writes the text for standard input, of which at most `most` bytes count.
+fn answer(most: u64, text: fn(&[u8]) -> String) -> io::Result<()> {
     let mut input = Vec::new();
-    io::stdin().read_to_end(&mut input)?;
-    io::stdout().write_all(depot::text(&input).as_bytes())
+    io::stdin().take(most).read_to_end(&mut input)?;
+    io::stdout().write_all(text(&input).as_bytes())
 }
 
 fn compare_depot(seed: u64, count: u64, program: &Program) -> ExitCode {
@@ -88,4 +114,27 @@ fn print_difference(seed: u64, difference: &Difference) {
     println!("input: {}", hex(&difference.input));
     println!("expected:\n{}", difference.expected);
     println!("found:\n{}", difference.found);
+}
+
+fn compare_drill(seed: u64, count: u64, program: &Program) -> ExitCode {
+    match drill_compare::compare(seed, count, program) {
+        Err(error) => fail(&format!("{}: {error}", program.name)),
+        Ok((tally, None)) => {
+            println!("{}", tally.line());
+            ExitCode::SUCCESS
+        }
+        Ok((tally, Some(difference))) => {
+            print_line_difference(seed, &difference);
+            println!("{}", tally.line());
+            ExitCode::from(1)
+        }
+    }
+}
+
+fn print_line_difference(seed: u64, difference: &drill_compare::Difference) {
+    let drill_compare::Difference { index, number, .. } = difference;
+    println!("difference: seed {seed}, index {index}, command {number} (from 0)");
+    println!("command: {}", hex(&difference.command));
+    print!("expected: {}", difference.expected);
+    print!("found:    {}", difference.found);
 }

@@ -8,6 +8,9 @@ pub const MOST_GROUPS: usize = 16;
 pub const MOST_NESTING: usize = 4;
 pub const MOST_ROWS: usize = 16;
 
+/// The note of the depot pair.
+pub const SAMPLE: [u8; 17] = [0x0F, 0, 2, 0, 1, 4, 0, 1, 0, 1, 2, 4, 0, 1, 0, 1, 2];
+
 /// The tree of groups as a note gives it; `own` is h, `data` is d.
 #[derive(Clone, Debug, PartialEq, Eq)]
 pub enum Group {
@@ -166,10 +169,8 @@ pub fn gives(group: &Group) -> bool {
 }
 
 #[cfg(test)]
-pub mod tests {
+mod tests {
     use super::*;
-
-    pub const SAMPLE: [u8; 17] = [0x0F, 0, 2, 0, 1, 4, 0, 1, 0, 1, 2, 4, 0, 1, 0, 1, 2];
 
     fn leaf(own: u8, data: u8) -> Group {
         Group::Leaf { own, data }

@@ -1,5 +1,7 @@
-//! Whether a lost block can be had back, and its plan. Decided by ranks,
-//! each rank by a full row reduction of its own. Every plan is checked.
+//! Whether a lost block can be had back, and its plan, by one reduction: the
+//! survivors' rows stand as columns in visiting order, the lost block's row
+//! behind them. A column is no combination of those before it exactly if it
+//! gets a pivot. Every plan is checked; the tests decide it by ranks too.
 
 use crate::code::Code;
 use crate::field::{add, dot, inverse, multiply};
@@ -10,11 +12,13 @@ pub type Plan = Vec<(usize, u8)>;
 
 type Matrix = Vec<Vec<u8>>;
 
-/// Brings a matrix into reduced row form; gives its rank.
-fn reduce(matrix: &mut Matrix) -> usize {
+/// Brings a matrix into reduced row form; gives the columns with a pivot,
+/// the first of them in row 0, and so on.
+fn reduce(matrix: &mut Matrix) -> Vec<usize> {
     let columns = matrix.first().map_or(0, Vec::len);
-    let mut rank = 0;
+    let mut pivots = Vec::new();
     for column in 0..columns {
+        let rank = pivots.len();
         let Some(found) = (rank..matrix.len()).find(|&r| matrix[r][column] != 0) else {
             continue;
         };
@@ -24,9 +28,9 @@ fn reduce(matrix: &mut Matrix) -> usize {
             .iter_mut()
             .for_each(|x| *x = multiply(*x, scale));
         clear_column(matrix, rank, column);
-        rank += 1;
+        pivots.push(column);
     }
-    rank
+    pivots
 }
 
 /// Makes every row but `keep` zero in the column where `keep` has a one.
@@ -43,53 +47,24 @@ fn clear_column(matrix: &mut Matrix, keep: usize, column: usize) {
     }
 }
 
-pub fn rank(mut rows: Matrix) -> usize {
-    reduce(&mut rows)
-}
-
-/// Whether the row is a combination of the rows: it adds no rank to them.
-fn is_combination(rows: &Matrix, row: &[u8]) -> bool {
-    let mut with_row = rows.clone();
-    with_row.push(row.to_vec());
-    rank(with_row) == rank(rows.clone())
-}
-
-/// The survivors that are no combination of those kept before them.
-fn kept_blocks(code: &Code, order: &[usize]) -> Vec<usize> {
-    let mut kept = Vec::new();
-    for &block in order {
-        if !is_combination(&code.rows(&kept), &code.blocks[block].row) {
-            kept.push(block);
-        }
-    }
-    kept
-}
-
-/// The one combination of independent rows that gives the target: one
-/// equation for each column, one unknown for each row.
-fn solve(rows: &Matrix, target: &[u8]) -> Vec<u8> {
+/// The plan of a lost block, or none if it is no combination of survivors.
+pub fn plan(code: &Code, lost: u64, block: usize) -> Option<Plan> {
+    let order = code.visiting_order(lost, block);
+    let target = &code.blocks[block].row;
     let equation = |i: usize| {
-        let mut sides: Vec<u8> = rows.iter().map(|row| row[i]).collect();
+        let mut sides: Vec<u8> = order.iter().map(|&b| code.blocks[b].row[i]).collect();
         sides.push(target[i]);
         sides
     };
-    let mut equations: Matrix = (0..target.len()).map(equation).collect();
-    let rank = reduce(&mut equations);
-    assert_eq!(rank, rows.len(), "rows dependent, or no solution");
-    let last = rows.len();
-    equations[..last].iter().map(|sides| sides[last]).collect()
-}
-
-/// The plan of a lost block, or none if it is no combination of survivors.
-pub fn plan(code: &Code, lost: u64, block: usize) -> Option<Plan> {
-    let target = &code.blocks[block].row;
-    if !is_combination(&code.rows(&code.survivors(lost)), target) {
+    let mut equations: Matrix = (0..code.k).map(equation).collect();
+    let kept = reduce(&mut equations);
+    let last = order.len();
+    if kept.contains(&last) {
         return None;
     }
-    let kept = kept_blocks(code, &code.visiting_order(lost, block));
-    let factors = solve(&code.rows(&kept), target);
-    let mut plan: Plan = kept.into_iter().zip(factors).collect();
-    plan.retain(|&(_, factor)| factor != 0);
+    let factors = equations.iter().map(|sides| sides[last]);
+    let items = kept.iter().map(|&column| order[column]).zip(factors);
+    let mut plan: Plan = items.filter(|&(_, factor)| factor != 0).collect();
     plan.sort();
     check(code, lost, block, &plan);
     Some(plan)
@@ -113,16 +88,61 @@ fn check(code: &Code, lost: u64, block: usize, plan: &Plan) {
 #[cfg(test)]
 pub mod tests {
     use super::*;
-    use crate::note::{read, tests::SAMPLE, Group};
+    use crate::figures::two_groups_of_four;
+    use crate::inputs::{some_marks, sound_note};
+    use crate::note::{read, SAMPLE};
+
+    fn rank(mut rows: Matrix) -> usize {
+        reduce(&mut rows).len()
+    }
+
+    /// Whether the row is a combination of the rows: it adds no rank to them.
+    fn is_combination(rows: &Matrix, row: &[u8]) -> bool {
+        let mut with_row = rows.clone();
+        with_row.push(row.to_vec());
+        rank(with_row) == rank(rows.clone())
+    }
+
+    /// The blocks a plan keeps, each judged by ranks of its own; none if the
+    /// lost block's row is no combination of the survivors'.
+    fn kept_by_ranks(code: &Code, lost: u64, block: usize) -> Option<Vec<usize>> {
+        let target = &code.blocks[block].row;
+        if !is_combination(&code.rows(&code.survivors(lost)), target) {
+            return None;
+        }
+        let mut kept = Vec::new();
+        for survivor in code.visiting_order(lost, block) {
+            if !is_combination(&code.rows(&kept), &code.blocks[survivor].row) {
+                kept.push(survivor);
+            }
+        }
+        Some(kept)
+    }
+
+    /// Checked plans over the kept rows are right, as these are independent.
+    #[test]
+    fn plans_agree_with_ranks() {
+        let mut found = [0; 2];
+        for index in 0..300 {
+            let random = &mut Random::numbered(77, index);
+            let code = Code::of(&read(&sound_note(random)).unwrap());
+            let lost = some_marks(random, code.k, code.n());
+            let lost_blocks = (0..code.n()).filter(|b| lost >> b & 1 == 1);
+            for block in lost_blocks.take(6) {
+                let plan = plan(&code, lost, block);
+                let kept = kept_by_ranks(&code, lost, block);
+                assert_eq!(plan.is_some(), kept.is_some());
+                let kept = kept.unwrap_or_default();
+                assert!(plan.iter().flatten().all(|item| kept.contains(&item.0)));
+                assert_eq!(rank(code.rows(&kept)), kept.len());
+                found[usize::from(plan.is_some())] += 1;
+            }
+        }
+        assert!(found.iter().all(|&count| count > 100));
+    }
 
     pub fn marks(blocks: &[usize]) -> u64 {
         blocks.iter().fold(0, |set, b| set | 1 << b)
-    }
-
-    /// Two groups of four with one redundant block each, and two on top.
-    pub fn two_groups_of_four() -> Group {
-        let members = vec![Group::Leaf { own: 1, data: 4 }; 2];
-        Group::Branch { own: 2, members }
     }
 
     fn with_plans(code: &Code, lost: &[usize]) -> Vec<usize> {

@@ -40,6 +40,9 @@ pub enum Price {
 #[derive(Clone, Debug, PartialEq, Eq)]
 pub struct Store {
     pub layout: Group,
+    /// Whether some field of the layout was altered after the note gave it:
+    /// then no note gives it.
+    pub altered: bool,
     pub standing: Standing,
     pub stripe: Vec<u8>,
     pub spare: Vec<u8>,
@@ -70,7 +73,7 @@ fn add_scaled(to: &mut [u8], factor: u8, from: &[u8]) {
 impl Store {
     /// 6.
     fn sound_layout(&self) -> Answer<Code> {
-        refuse_if(!gives(&self.layout), 6)?;
+        refuse_if(self.altered || !gives(&self.layout), 6)?;
         Ok(Code::of(&self.layout))
     }
 

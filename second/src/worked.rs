@@ -1,7 +1,8 @@
 //! The worked numbers of the store's calls, and runs over whole patterns.
 
-use crate::note::{read, tests::SAMPLE, Group};
-use crate::plan::tests::{marks, two_groups_of_four};
+use crate::figures::two_groups_of_four;
+use crate::note::{read, Group, SAMPLE};
+use crate::plan::tests::marks;
 use crate::random::Random;
 use crate::store::{Limits, Price, Refusal, Standing, Store};
 
@@ -10,6 +11,7 @@ fn store(layout: Group, length: usize, stripe: Vec<u8>) -> Store {
     let spare = vec![0xEE; length];
     Store {
         layout,
+        altered: false,
         standing,
         stripe,
         spare,

@@ -1,0 +1,99 @@
+// The calls: each writes its line.
+use crate::fields;
+use crate::show;
+use note::Layout;
+use plan::Standing;
+use stripe::Stood;
+
+// The name of a call and its block.
+fn named(letter: u8, b: usize) {
+    show::name(letter);
+    show::number(b as u64);
+}
+
+fn said(r: Stood) -> Standing {
+    let a = r.answer;
+    show::answer(a);
+    r.standing
+}
+
+fn encode(l: Layout, st: Standing, stripe: &mut [u8]) -> Standing {
+    show::name(b'E');
+    said(stripe::encode_by(l, st, stripe))
+}
+
+fn rebuild(l: Layout, st: Standing, stripe: &mut [u8]) -> Standing {
+    let r = stripe::rebuild_by(l, st, stripe);
+    let a = r.answer;
+    show::name(b'U');
+    show::rebuilding(a);
+    r.standing
+}
+
+fn repair(l: Layout, st: Standing, stripe: &mut [u8], b: usize) -> Standing {
+    named(b'R', b);
+    said(stripe::repair_by(l, st, stripe, b))
+}
+
+fn correct(l: Layout, st: Standing, stripe: &mut [u8], b: usize, command: &[u8]) -> Standing {
+    let off = fields::word(fields::from(command, 9)) as usize;
+    let diff = fields::from(command, 19);
+    named(b'D', b);
+    let a = stripe::correct_by(l, st, stripe, b, off, diff);
+    show::answer(a);
+    st
+}
+
+// Calls, and writes the answer.
+fn answered(letter: u8, command: &[u8], l: Layout, st: Standing, stripe: &mut [u8]) -> Standing {
+    let b = fields::word(fields::from(command, 1)) as usize;
+    match letter {
+        b'E' => encode(l, st, stripe),
+        b'U' => rebuild(l, st, stripe),
+        b'R' => repair(l, st, stripe, b),
+        _ => correct(l, st, stripe, b, command),
+    }
+}
+
+// The calls that may change the stripe; the standing that is left.
+pub fn change(letter: u8, command: &[u8], l: Layout, st: Standing, stripe: &mut [u8]) -> Standing {
+    let after = answered(letter, command, l, st, stripe);
+    show::standing(after);
+    show::left(b"", stripe);
+    after
+}
+
+pub fn lose(l: Layout, st: Standing, b: usize) -> Standing {
+    named(b'O', b);
+    let after = said(stripe::lose_by(l, st, b));
+    show::standing(after);
+    show::end();
+    after
+}
+
+pub fn fetch(l: Layout, st: Standing, stripe: &[u8], spare: &mut [u8], b: usize) {
+    let a = stripe::fetch_by(l, st, stripe, spare, b);
+    named(b'F', b);
+    show::answer(a);
+    show::state(st, stripe, spare);
+}
+
+pub fn view<'a>(l: Layout, st: Standing, stripe: &'a [u8], spare: &'a [u8], b: usize) {
+    let part = stripe::view_by(l, st, stripe, spare, b);
+    named(b'V', b);
+    show::bytes(part);
+    show::state(st, stripe, spare);
+}
+
+pub fn ask_plan(l: Layout, st: Standing, b: usize) {
+    let r = plan::plan_of(l, st, b);
+    let a = r.answer;
+    let p = r.plan;
+    let block = p.block;
+    let coef = p.coef;
+    named(b'P', b);
+    show::answer(a);
+    // a refused plan has no items
+    show::items(&block, &coef, p.reads);
+    show::end();
+}
