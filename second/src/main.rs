@@ -19,14 +19,16 @@
 //!       writes one of these scripts
 //!   second drill-sample
 //!       writes one script with every letter and every refusal of every call
-//!   second figures
-//!       counts the patterns of lost blocks that have plans throughout
+//!   second figures FILE PROGRAM [ARGS..]
+//!       runs PROGRAM on scripts of all patterns of lost blocks that FILE names
+//!       (figures.txt) and compares its sums with the figures there; prints a
+//!       line for each, and ends with 1 on any difference
 //!
-//! A wrong command line, or a program that cannot be run, ends with 2.
+//! A wrong command line or file, or a program that cannot be run, ends with 2.
 //! field.rs, note.rs, code.rs, plan.rs, store.rs and depot.rs are the store;
 //! commands.rs and drill.rs run scripts; random.rs, inputs.rs and compare.rs
 //! make the comparison of the program, scripts.rs and drill_compare.rs that
-//! of scripts; figures.rs counts.
+//! of scripts, figures.rs that of figures.
 
 use std::io::{self, Read, Write};
 use std::process::ExitCode;
@@ -41,7 +43,7 @@ const USAGE: &str = "usage: second depot-text
        second compare-drill SEED COUNT PROGRAM [ARGS..]
        second drill-script SEED INDEX
        second drill-sample
-       second figures";
+       second figures FILE PROGRAM [ARGS..]";
 
 fn main() -> ExitCode {
     let arguments: Vec<String> = std::env::args().skip(1).collect();
@@ -50,7 +52,13 @@ fn main() -> ExitCode {
         ["depot-text"] => answer(u64::MAX, depot::text),
         ["drill-text"] => answer(drill::MOST_SCRIPT as u64, drill::text),
         ["drill-sample"] => io::stdout().write_all(&scripts::sample()),
-        ["figures"] => io::stdout().write_all(figures::text().as_bytes()),
+        ["figures", file, name, ..] => {
+            let program = Program {
+                name: name.to_string(),
+                arguments: arguments[3..].to_vec(),
+            };
+            return check_figures(file, &program);
+        }
         [what @ ("depot-input" | "drill-script"), seed, index] => {
             let (Ok(seed), Ok(index)) = (seed.parse(), index.parse()) else {
                 return fail(USAGE);
@@ -114,6 +122,25 @@ fn print_difference(seed: u64, difference: &Difference) {
     println!("input: {}", hex(&difference.input));
     println!("expected:\n{}", difference.expected);
     println!("found:\n{}", difference.found);
+}
+
+fn check_figures(file: &str, program: &Program) -> ExitCode {
+    let text = std::fs::read_to_string(file).map_err(|error| error.to_string());
+    let figures = match text.and_then(|text| figures::read(&text)) {
+        Ok(figures) => figures,
+        Err(error) => return fail(&format!("{file}: {error}")),
+    };
+    let mut all_same = true;
+    for figure in &figures {
+        match figures::check(figure, program) {
+            Err(error) => return fail(&format!("{}: {error}", program.name)),
+            Ok((line, same)) => {
+                println!("{line}");
+                all_same &= same;
+            }
+        }
+    }
+    ExitCode::from(u8::from(!all_same))
 }
 
 fn compare_drill(seed: u64, count: u64, program: &Program) -> ExitCode {

@@ -88,9 +88,9 @@ fn check(code: &Code, lost: u64, block: usize, plan: &Plan) {
 #[cfg(test)]
 pub mod tests {
     use super::*;
-    use crate::figures::two_groups_of_four;
     use crate::inputs::{some_marks, sound_note};
     use crate::note::{read, SAMPLE};
+    use crate::worked::two_groups_of_four;
 
     fn rank(mut rows: Matrix) -> usize {
         reduce(&mut rows).len()

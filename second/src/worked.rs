@@ -1,10 +1,16 @@
 //! The worked numbers of the store's calls, and runs over whole patterns.
 
-use crate::figures::two_groups_of_four;
+use crate::code::Code;
 use crate::note::{read, Group, SAMPLE};
 use crate::plan::tests::marks;
 use crate::random::Random;
 use crate::store::{Limits, Price, Refusal, Standing, Store};
+
+/// Two groups of four with one redundant block each, and two on top.
+pub fn two_groups_of_four() -> Group {
+    let members = vec![Group::Leaf { own: 1, data: 4 }; 2];
+    Group::Branch { own: 2, members }
+}
 
 fn store(layout: Group, length: usize, stripe: Vec<u8>) -> Store {
     let standing = Standing { length, lost: 0 };
@@ -326,4 +332,36 @@ fn agree_where_not_lost(store: &Store, fresh: &Store) {
         let part = block * length..(block + 1) * length;
         assert_eq!(store.stripe[part.clone()], fresh.stripe[part]);
     }
+}
+
+/// For each number of lost blocks up to `most`: the patterns with plans
+/// throughout, and all patterns.
+fn with_plans(layout: &Group, most: usize) -> Vec<(usize, usize)> {
+    let n = Code::of(layout).n();
+    let mut counts = vec![(0, 0); most + 1];
+    for lost in 0u64..1 << n {
+        let size = lost.count_ones() as usize;
+        if size <= most {
+            counts[size].0 += usize::from(has_plans(layout, n, lost));
+            counts[size].1 += 1;
+        }
+    }
+    counts
+}
+
+/// Rebuild and the plans of the single blocks must agree.
+fn has_plans(layout: &Group, n: usize, lost: u64) -> bool {
+    let mut store = store(layout.clone(), 1, vec![0; n]);
+    store.standing.lost = lost;
+    let lost_blocks = (0..n).filter(|b| lost >> b & 1 == 1);
+    let without = lost_blocks.filter(|&b| store.plan(b).is_err()).min();
+    let rebuilt = store.rebuild();
+    assert_eq!(rebuilt.err().and_then(|refusal| refusal.block), without);
+    without.is_none()
+}
+
+#[test]
+fn patterns_with_plans_throughout() {
+    let counts = with_plans(&two_groups_of_four(), 4);
+    assert_eq!(counts, [(1, 1), (12, 12), (66, 66), (220, 220), (421, 495)]);
 }

@@ -17,12 +17,10 @@ use Rattle.note.specs.declared.Reading.{Reading}
 use Rattle.note.specs.Note.{readNote, reading}
 use Rattle.note.specs.Note.Outcome.{layout}
 use Rattle.note.specs.Worked.{sample}
-use Rattle.note.proofs.Worked.{sample-read}
-use Rattle.note.specs.Tree.{leaf, branch, pair, over, overIn, notesIn, datas, datasIn, redundants, redundantsIn, size, sizeIn, groupsOf, groupsIn, layoutOf}
 use Rattle.marks.specs.Marks.{marked, withMark, noneFrom}
 use Rattle.marks.proofs.Bits.{none-from}
 use Rattle.rows.specs.Rows.{blocks, row}
-use Rattle.rows.proofs.Worked.{depot, depot-blocks, depot-rows}
+use Rattle.rows.proofs.Worked.{depot, depot-read, depot-given, depot-blocks, depot-rows}
 use Rattle.calls.specs.Calls.{by}
 use Rattle.plan.specs.declared.Standing.{Standing}
 use Rattle.plan.specs.declared.Planned.{Planned}
@@ -33,7 +31,7 @@ use Rattle.plan.specs.Plans.{Plans, refusal}
 use Rattle.plan.proofs.Verdicts.{plans-unique}
 use Rattle.plan.proofs.Worked as Plan-worked
 use Rattle.plan.proofs.Worked.{marksOf, lostSet, Case, Says, nothing, cases, Right, Each, end, also, cases-right}
-use Rattle.stripe.proofs.Worked.{depot-given, depot-stripe}
+use Rattle.stripe.proofs.Worked.{depot-stripe}
 use Rattle.store.specs.declared.Said.{Said}
 use Rattle.store.specs.Answers.{spoken}
 use Rattle.store.specs.Store.{Read, Encode, Plan}
@@ -44,10 +42,6 @@ pub line-products : map (λ (p : ℕ × ℕ × ℕ). mul (p .0) (p .1)) products
 line-products = products-hold
 
 -- ---- "note .. k = 4, n = 7. Row 0 is 27, 84, 161, 29; block 5 is 84, 27, 0, 0; block 6 is 0, 0, 29, 161"
-
-depot-read : readNote sample ≡ layout depot
-unfolding depot layoutOf groupsOf groupsIn datas datasIn redundants redundantsIn size sizeIn notesIn over overIn
-depot-read = sample-read
 
 pub line-note : (r : Reading) → Read sample r
     → (r ≡ record { answer = Accepted; layout = depot }) × (depot .k ≡ 4) × (blocks depot ≡ 7)

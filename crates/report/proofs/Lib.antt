@@ -5,3 +5,4 @@ pub mod Parts
 pub mod Lines
 pub mod Reports
 pub mod OneText
+pub mod Worked

@@ -5,7 +5,7 @@ use mathlib.Core.List.{List, [], _∷_, _++_}
 use native.Mathlib.Omega.{arith}
 use native.Mathlib.Numerals.{add-one}
 use lib.ListN.{length, getD, set, take, length-append}
-use lib.Seq.{sets, length-sets, take-suc, take-all, length-take-le}
+use lib.Seq.{sets, length-sets, take-suc, take-all}
 use Rattle.note.proofs.Advance.{sets-append}
 use Rattle.report.specs.Inner.{Put}
 

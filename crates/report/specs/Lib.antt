@@ -1,3 +1,4 @@
 pub mod Text
 pub mod Report
 pub mod Inner
+pub mod Worked

@@ -53,7 +53,7 @@ fn little(s: &[u8]) -> u64
 
 // What is said of a lost block's plan.
 fn put_planned(out: &mut [u8], at: usize, r: Planned) -> usize
-    requires { ⌜ r .plan .reads ≤ 32 ⌝ }
+    requires { ⌜ (r .plan .reads ≤ 32) × (at + 4 ≤ length (now out)) ⌝ }
     requires { ⌜ Room (planText (r .answer) (r .plan)) at (now out) ⌝ }
     ensures { λ e. ⌜ Put (planText (r .answer) (r .plan)) at (now (out .entry)) (now (out .exit)) e ⌝ }
 {
@@ -74,7 +74,7 @@ fn put_planned(out: &mut [u8], at: usize, r: Planned) -> usize
 
 // The line of a lost block.
 fn put_line(out: &mut [u8], at: usize, b: usize, r: Planned) -> usize
-    requires { ⌜ (b < 256) × (r .plan .reads ≤ 32) ⌝ }
+    requires { ⌜ (b < 256) × (r .plan .reads ≤ 32) × (at + 12 ≤ length (now out)) ⌝ }
     requires { ⌜ Room (lineOf b r) at (now out) ⌝ }
     ensures { λ e. ⌜ Put (lineOf b r) at (now (out .entry)) (now (out .exit)) e ⌝ }
 {

@@ -13,12 +13,10 @@ use Rattle.field.proofs.Table.{below}
 use Rattle.linear.specs.Sums.{sumTo}
 use Rattle.linear.specs.Blocks.{dot}
 use Rattle.linear.proofs.Sets.{in-and-out}
-use Rattle.note.specs.Given.{Given}
-use Rattle.note.specs.Tree.{leaf, branch, pair, over, overIn, datas, redundants, size, nesting, rows, fewest, layoutOf}
-use Rattle.note.proofs.RoundTrip.{tree-given}
+use Rattle.note.specs.Tree.{over, overIn, datas, layoutOf}
 use Rattle.marks.proofs.Bits.{marked-zero}
 use Rattle.rows.specs.Rows.{blocks, row}
-use Rattle.rows.proofs.Worked.{depot, depot-blocks, depot-rows}
+use Rattle.rows.proofs.Worked.{depot, depot-given, depot-blocks, depot-rows}
 use Rattle.calls.specs.Code.{enc}
 use Rattle.calls.specs.Calls.{laid}
 use Rattle.plan.specs.declared.Answer.{Answer}
@@ -29,21 +27,6 @@ use Rattle.stripe.specs.Stripes.{Sized, Encodes, Corrects}
 use Rattle.stripe.proofs.Outcomes.{encodes-unique, corrects-unique}
 
 -- ---- 6 and 7 are met
-
--- the depot pair is a layout that an accepted note gives
-pub depot-given : Given depot
-unfolding depot over overIn datas redundants size nesting rows fewest
-depot-given =
-    tree-given (branch 1 (pair (leaf 1 2) (leaf 1 2)))
-    (record {
-      leaves = omega arith;
-      some = omega arith;
-      k = omega arith;
-      n = omega arith;
-      groups = omega arith;
-      nested = omega arith;
-      path = omega arith;
-    })
 
 depot-sized : Sized depot 1 7
 depot-sized = record { range = record { least = omega arith; most = omega arith }; whole = omega (arith, depot-blocks .1) }

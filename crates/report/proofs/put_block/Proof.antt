@@ -23,7 +23,7 @@ put-line-requires c κs =
     let after-plan-of = c .before in
     let start = after-plan-of .before .before .before .before in
     let s = plan-short _ _ _ (after-plan-of .plan-of .ensures) in (
-      (omega (arith, start .pre), s .reads),
+      (omega (arith, start .pre), s .reads, omega (arith, start .pre)),
       omega (arith, start .pre, line-short (start .args .b) (after-plan-of .plan-of .result) (start .pre .0) s),
     )
 

@@ -2,6 +2,7 @@
 use native.Mathlib.Omega.{arith}
 use lib.ListN.{length-append}
 use Rattle.report.proofs.Puts.{put-then, put-length}
+use Rattle.report.proofs.Digits.{decimal-short}
 use borrow.Author.Needs.{needs}
 use Rattle.report.proofs.put_line.Statement.{statement}
 use Rattle.report.proofs.put_line.Tie as tie
@@ -30,7 +31,18 @@ put-planned-requires c κs =
     let after-low = after-put-decimal .before in
     let after-put-word = after-low .before .before .before .before in
     let start = after-put-word .before .before .before .before in (
-      start .pre .0 .1,
+      (
+        start .pre .0 .1,
+        omega (
+          arith,
+          start .pre .0,
+          decimal-short (after-low .low .result),
+          after-put-word .put-word .ensures .end,
+          put-length (after-put-word .put-word .ensures),
+          after-put-decimal .put-decimal .ensures .end,
+          put-length (after-put-decimal .put-decimal .ensures),
+        ),
+      ),
       omega (
         arith,
         simp length-append at (start .pre .1),

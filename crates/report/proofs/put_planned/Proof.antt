@@ -3,6 +3,8 @@ use mathlib.Core.Path.{_≡_}
 use native.Mathlib.Omega.{arith}
 use lib.ListN.{length}
 use Rattle.report.proofs.Puts.{put-then, put-length}
+use Rattle.report.specs.Text.{decimal}
+use Rattle.report.proofs.Digits.{decimal-short}
 use borrow.Author.Needs.{needs}
 use Rattle.report.proofs.put_planned.Statement.{statement}
 use Rattle.report.proofs.put_planned.Tie as tie
@@ -30,16 +32,22 @@ enum-known-answer c = search needs
 
 put-requires : tie.Need-put-requires
 put-requires c κs =
-    let after-answer = c .before .before in
-    let start = after-answer .before .before .before in
-    omega (arith, rw (after-answer .answer .given .1) at (start .pre .1))
+    let start = c .before .before .before .before .before in
+    omega (arith, start .pre .0)
 
 put-decimal-requires : tie.Need-put-decimal-requires
+unfolding decimal
 put-decimal-requires c κs =
     let after-put = c .before .before .before in
     let after-answer = after-put .before .before .before in
     let start = after-answer .before .before .before in
-    omega (arith, rw (after-answer .answer .given .1) at (start .pre .1), after-put .put .ensures .end, put-length (after-put .put .ensures))
+    omega (
+      arith,
+      decimal-short (after-answer .answer .given .0 .0),
+      start .pre .0,
+      after-put .put .ensures .end,
+      put-length (after-put .put .ensures),
+    )
 
 same-length : tie.Need-same-length
 same-length c = search needs

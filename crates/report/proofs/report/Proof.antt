@@ -9,7 +9,7 @@ use Rattle.report.proofs.report.Statement.{statement}
 use Rattle.report.proofs.report.Tie as tie
 
 returns : tie.Need-returns
-returns c = report-small _ _ (c .if1 .taken)
+returns c = report-small _ _ (omega (arith, c .if1 .taken))
 
 readable-requires : tie.Need-readable-requires
 readable-requires c κs = search needs
@@ -18,7 +18,7 @@ put-refused-requires : tie.Need-put-refused-requires
 put-refused-requires c κs =
     let after-if1 = c .before .before .before in
     let start = after-if1 .before .before .before in
-    refused-room 5 (start .args .out .now) (after-if1 .if1 .left)
+    refused-room 5 (start .args .out .now) (omega (arith, after-if1 .if1 .left))
 
 same-length : tie.Need-same-length
 same-length c = search needs
@@ -29,7 +29,7 @@ returns-2 c =
     let after-if2 = after-put-refused .before .before in
     let after-readable = after-if2 .before in
     let after-if1 = after-readable .before in
-    report-text _ _ _ _ (after-if1 .if1 .left)
+    report-text _ _ _ _ (omega (arith, after-if1 .if1 .left))
     (written-unmet (told-no (after-readable .readable .result) (after-readable .readable .ensures) (after-if2 .if2 .taken)) (after-put-refused .put-refused .ensures))
 
 note-end-requires : tie.Need-note-end-requires
@@ -68,7 +68,7 @@ follow-requires c κs =
     let bytes =
     bytes-part (after-note-end .note-end .result) (start .args .input .now) (λ j. after-shared-slice-known .shared-slice-known .given j .fits) in (
       accepted _ (after-read-note .read-note .result) bytes (after-read-note .read-note .ensures) (after-enum-told .enum-told .given .1),
-      after-if1 .if1 .left,
+      omega (arith, after-if1 .if1 .left),
     )
 
 enum-known-answer : tie.Need-enum-known-answer
@@ -79,7 +79,7 @@ put-refused-requires-2 c κs =
     let after-answer = c .before .before in
     let after-if1 = after-answer .before .before .before .before .before .before .before .before in
     let start = after-if1 .before .before .before in
-    refused-room (after-answer .answer .given .0 .0) (start .args .out .now) (after-if1 .if1 .left)
+    refused-room (after-answer .answer .given .0 .0) (start .args .out .now) (omega (arith, after-if1 .if1 .left))
 
 same-length-2 : tie.Need-same-length-2
 same-length-2 c = search needs
@@ -99,7 +99,7 @@ returns-3 c =
     let w =
     written-sound (start .args .input .now) (after-note-end .note-end .result) (after-note-end .note-end .ensures) short read
     (after-read-note .read-note .ensures) (after-enum-told .enum-told .given .1) (after-follow .follow .ensures) in
-    report-text _ _ _ _ (after-if1 .if1 .left) w
+    report-text _ _ _ _ (omega (arith, after-if1 .if1 .left)) w
 
 same-length-3 : tie.Need-same-length-3
 same-length-3 c = search needs
@@ -119,7 +119,7 @@ returns-4 c =
     let w =
     written-refused (start .args .input .now) (after-note-end .note-end .result) (after-note-end .note-end .ensures) short read _ _
     (after-read-note .read-note .ensures) (after-answer .answer .given .1) (after-put-refused2 .put-refused2 .ensures) in
-    report-text _ _ _ _ (after-if1 .if1 .left) w
+    report-text _ _ _ _ (omega (arith, after-if1 .if1 .left)) w
 
 pub report-spec : {M : Type 1} → statement M
 report-spec =

@@ -19,7 +19,12 @@ wide-requires-2 c κs = search needs
 mul-result : tie.Need-mul-result
 mul-result c =
     let after-shared-slice-known = c .before .before .before .before in
-    omega (arith, c .wide2 .ensures, after-shared-slice-known .shared-slice-known .given 1 .fits)
+    omega (
+      arith,
+      c .wide2 .ensures,
+      after-shared-slice-known .shared-slice-known .given 0 .fits,
+      after-shared-slice-known .shared-slice-known .given 1 .fits,
+    )
 
 add-result : tie.Need-add-result
 add-result c =

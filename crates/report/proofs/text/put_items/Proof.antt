@@ -2,6 +2,7 @@
 use Prim.Native.Nat.{_-_, _≤_}
 use mathlib.Core.Path.{_≡_}
 use native.Mathlib.Omega.{arith}
+use lib.ListN.{length-append}
 use Rattle.report.specs.Text.{itemsText}
 use Rattle.report.specs.Inner.{Put}
 use Rattle.report.proofs.Puts.{put-nothing, put-then, put-length}
@@ -30,13 +31,9 @@ put-item-requires : tie.Need-put-item-requires Inv-loop μ-loop
 put-item-requires c κs =
     let after-loop = c .before .before .before .before in
     let start = after-loop .before .before .before .before in
-    omega (
-      arith,
-      start .pre .1,
-      after-loop .loop .inv .0 .end,
-      put-length (after-loop .loop .inv .0),
-      items-room (start .args .block .now) (start .args .coef .now) (after-loop .loop .i) (start .args .reads) (omega arith),
-    )
+    let room = items-room (start .args .block .now) (start .args .coef .now) (after-loop .loop .i) (start .args .reads) (omega arith) in
+    simp length-append
+    (omega (arith, start .pre .1, after-loop .loop .inv .0 .end, put-length (after-loop .loop .inv .0), simp length-append at room))
 
 add-i : tie.Need-add-i Inv-loop μ-loop
 add-i c = search needs
