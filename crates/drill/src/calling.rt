@@ -6,9 +6,8 @@ use plan::Standing;
 use stripe::Stood;
 
 // The name of a call and its block.
-fn named(letter: u8, b: usize) {
-    show::name(letter);
-    show::number(b as u64);
+fn named(words: &[u8], b: usize) {
+    show::count(words, b as u64);
 }
 
 fn said(r: Stood) -> Standing {
@@ -18,27 +17,27 @@ fn said(r: Stood) -> Standing {
 }
 
 fn encode(l: Layout, st: Standing, stripe: &mut [u8]) -> Standing {
-    show::name(b'E');
+    show::text(b"encode");
     said(stripe::encode_by(l, st, stripe))
 }
 
 fn rebuild(l: Layout, st: Standing, stripe: &mut [u8]) -> Standing {
     let r = stripe::rebuild_by(l, st, stripe);
     let a = r.answer;
-    show::name(b'U');
+    show::text(b"rebuild");
     show::rebuilding(a);
     r.standing
 }
 
 fn repair(l: Layout, st: Standing, stripe: &mut [u8], b: usize) -> Standing {
-    named(b'R', b);
+    named(b"repair ", b);
     said(stripe::repair_by(l, st, stripe, b))
 }
 
 fn correct(l: Layout, st: Standing, stripe: &mut [u8], b: usize, command: &[u8]) -> Standing {
     let off = fields::word(fields::from(command, 9)) as usize;
     let diff = fields::from(command, 19);
-    named(b'D', b);
+    named(b"correct ", b);
     let a = stripe::correct_by(l, st, stripe, b, off, diff);
     show::answer(a);
     st
@@ -59,12 +58,12 @@ fn answered(letter: u8, command: &[u8], l: Layout, st: Standing, stripe: &mut [u
 pub fn change(letter: u8, command: &[u8], l: Layout, st: Standing, stripe: &mut [u8]) -> Standing {
     let after = answered(letter, command, l, st, stripe);
     show::standing(after);
-    show::left(b"", stripe);
+    show::last(stripe);
     after
 }
 
 pub fn lose(l: Layout, st: Standing, b: usize) -> Standing {
-    named(b'O', b);
+    named(b"lose ", b);
     let after = said(stripe::lose_by(l, st, b));
     show::standing(after);
     show::end();
@@ -73,15 +72,20 @@ pub fn lose(l: Layout, st: Standing, b: usize) -> Standing {
 
 pub fn fetch(l: Layout, st: Standing, stripe: &[u8], spare: &mut [u8], b: usize) {
     let a = stripe::fetch_by(l, st, stripe, spare, b);
-    named(b'F', b);
+    named(b"fetch ", b);
     show::answer(a);
     show::state(st, stripe, spare);
 }
 
 pub fn view<'a>(l: Layout, st: Standing, stripe: &'a [u8], spare: &'a [u8], b: usize) {
     let part = stripe::view_by(l, st, stripe, spare, b);
-    named(b'V', b);
+    named(b"view ", b);
     show::bytes(part);
+    show::state(st, stripe, spare);
+}
+
+pub fn tell<'a>(st: Standing, stripe: &'a [u8], spare: &'a [u8]) {
+    show::setting(b'T');
     show::state(st, stripe, spare);
 }
 
@@ -91,7 +95,7 @@ pub fn ask_plan(l: Layout, st: Standing, b: usize) {
     let p = r.plan;
     let block = p.block;
     let coef = p.coef;
-    named(b'P', b);
+    named(b"plan ", b);
     show::answer(a);
     // a refused plan has no items
     show::items(&block, &coef, p.reads);

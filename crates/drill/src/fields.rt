@@ -76,6 +76,20 @@ fn fixed(letter: u8) -> usize
     }
 }
 
+// The kinds of commands: 1 sets or loses and touches no buffer, 2 sets the stripe, 3 the spare, 4 is junk, 5 may change the stripe, 6 is plan and price;
+// 0 is the rest.
+pub fn kind(letter: u8) -> u8 {
+    match letter {
+        b'N' | b'A' | b'S' | b'O' => 1,
+        b'B' => 2,
+        b'Q' => 3,
+        b'J' => 4,
+        b'E' | b'R' | b'U' | b'D' => 5,
+        b'P' | b'C' => 6,
+        _ => 0,
+    }
+}
+
 // How many bytes follow the fields of fixed size.
 fn more(letter: u8, s: &[u8]) -> usize
     ensures { λ r. ⌜ r < 4294967296 ⌝ }

@@ -60,7 +60,8 @@ fn read(bytes: &[u8], l: Layout) -> Layout {
 }
 
 fn alter(f: u8, l: Layout) -> Layout {
-    show::count(b"alter ", fields::wide(f));
+    show::setting(b'A');
+    show::number(fields::wide(f));
     show::end();
     altered::field(l, f)
 }
@@ -72,7 +73,7 @@ fn stand(command: &[u8]) -> Standing {
         len: len,
         lost: lost,
     };
-    show::text(b"standing");
+    show::setting(b'S');
     show::standing(st);
     show::end();
     st
@@ -121,12 +122,13 @@ fn lay(buf: &mut [u8], bytes: &[u8]) -> usize
     i
 }
 
-// Sets a buffer's bytes and writes them; the words are the line's first.
-fn fill(words: &[u8], bytes: &[u8], buf: &mut [u8]) -> usize
+// Sets a buffer's bytes and writes them.
+fn fill(letter: u8, bytes: &[u8], buf: &mut [u8]) -> usize
     ensures { λ r. ⌜ r ≤ length (now (buf .entry)) ⌝ }
 {
     let n = lay(buf, bytes);
-    show::left(words, &buf[0..n]);
+    show::setting(letter);
+    show::last(&buf[0..n]);
     n
 }
 
@@ -154,7 +156,17 @@ fn junk(stripe: &mut [u8], st: Standing, x: u8) {
     }
 }
 
-// Junk, and the calls that may change the stripe.
+fn spoil(command: &[u8], s: Kept, stripe: &mut [u8])
+    requires { ⌜ s .stripe ≤ length (now stripe) ⌝ }
+{
+    let st = s.standing;
+    let m = s.stripe;
+    junk(&mut stripe[0..m], st, fields::at(command, 1));
+    show::setting(b'J');
+    show::last(&stripe[0..m]);
+}
+
+// The calls that may change the stripe.
 fn change(letter: u8, command: &[u8], s: Kept, stripe: &mut [u8]) -> Kept
     requires { ⌜ s .stripe ≤ length (now stripe) ⌝ }
     ensures { λ r. ⌜ Same s r ⌝ }
@@ -163,19 +175,20 @@ fn change(letter: u8, command: &[u8], s: Kept, stripe: &mut [u8]) -> Kept
     let l = q.layout;
     let st = q.standing;
     let m = q.stripe;
-    if letter == b'J' {
-        junk(&mut stripe[0..m], st, fields::at(command, 1));
-        show::left(b"junk", &stripe[0..m]);
-        return q;
-    }
     let after = calling::change(letter, command, l, st, &mut stripe[0..m]);
     q.standing = after;
     q
 }
 
-fn tell<'a>(st: Standing, stripe: &'a [u8], spare: &'a [u8]) {
-    show::text(b"state");
-    show::state(st, stripe, spare);
+// The calls that touch no buffer and change nothing.
+fn quote(letter: u8, command: &[u8], s: Kept) {
+    let l = s.layout;
+    let first = fields::word(fields::from(command, 1));
+    if letter == b'C' {
+        sheet::ask_price(l, first, fields::word(fields::from(command, 9)));
+        return;
+    }
+    calling::ask_plan(l, s.standing, first as usize);
 }
 
 // The calls that leave everything kept as it is, but for the spare's bytes.
@@ -186,13 +199,11 @@ fn look(letter: u8, command: &[u8], s: Kept, stripe: &mut [u8], spare: &mut [u8]
     let st = s.standing;
     let m = s.stripe;
     let n = s.spare;
-    let first = fields::word(fields::from(command, 1));
+    let b = fields::word(fields::from(command, 1)) as usize;
     match letter {
-        b'F' => calling::fetch(l, st, &stripe[0..m], &mut spare[0..n], first as usize),
-        b'V' => calling::view(l, st, &stripe[0..m], &spare[0..n], first as usize),
-        b'P' => calling::ask_plan(l, st, first as usize),
-        b'C' => sheet::ask_price(l, first, fields::word(fields::from(command, 9))),
-        _ => tell(st, &stripe[0..m], &spare[0..n]),
+        b'F' => calling::fetch(l, st, &stripe[0..m], &mut spare[0..n], b),
+        b'V' => calling::view(l, st, &stripe[0..m], &spare[0..n], b),
+        _ => calling::tell(st, &stripe[0..m], &spare[0..n]),
     }
 }
 
@@ -202,24 +213,17 @@ fn ask(command: &[u8], s: Kept, stripe: &mut [u8], spare: &mut [u8]) -> Kept
     ensures { λ r. ⌜ Room r (now (stripe .exit)) (now (spare .exit)) ⌝ }
 {
     let letter = fields::at(command, 0);
-    match letter {
-        b'N' | b'A' | b'S' | b'O' => set(letter, command, s),
-        b'B' => {
-            let mut q = s;
-            q.stripe = fill(b"stripe", fields::from(command, 5), stripe);
-            q
-        }
-        b'Q' => {
-            let mut q = s;
-            q.spare = fill(b"spare", fields::from(command, 3), spare);
-            q
-        }
-        b'J' | b'E' | b'R' | b'U' | b'D' => change(letter, command, s, stripe),
-        _ => {
-            look(letter, command, s, stripe, spare);
-            s
-        }
+    let mut q = s;
+    match fields::kind(letter) {
+        1 => q = set(letter, command, s),
+        2 => q.stripe = fill(letter, fields::from(command, 5), stripe),
+        3 => q.spare = fill(letter, fields::from(command, 3), spare),
+        4 => spoil(command, s, stripe),
+        5 => q = change(letter, command, s, stripe),
+        6 => quote(letter, command, s),
+        _ => look(letter, command, s, stripe, spare),
     }
+    q
 }
 
 // What is kept at the start: the layout that a refused note leaves, which is blank.

@@ -54,17 +54,15 @@ pub fn refused(m: u8, offset: usize) {
     end();
 }
 
-// The name of a call.
-pub fn name(letter: u8) {
+// The name of a setting; of T it is the state.
+pub fn setting(letter: u8) {
     match letter {
-        b'E' => text(b"encode"),
-        b'U' => text(b"rebuild"),
-        b'O' => text(b"lose"),
-        b'R' => text(b"repair"),
-        b'D' => text(b"correct"),
-        b'F' => text(b"fetch"),
-        b'V' => text(b"view"),
-        _ => text(b"plan"),
+        b'A' => text(b"alter"),
+        b'S' => text(b"standing"),
+        b'B' => text(b"stripe"),
+        b'Q' => text(b"spare"),
+        b'J' => text(b"junk"),
+        _ => text(b"state"),
     }
 }
 
@@ -151,9 +149,8 @@ pub fn standing(st: Standing) {
     number(st.lost);
 }
 
-// What a setting leaves, which ends the line.
-pub fn left(words: &[u8], part: &[u8]) {
-    text(words);
+// Bytes that end the line.
+pub fn last(part: &[u8]) {
     bytes(part);
     end();
 }
@@ -162,8 +159,7 @@ pub fn left(words: &[u8], part: &[u8]) {
 pub fn state<'a>(st: Standing, stripe: &'a [u8], spare: &'a [u8]) {
     standing(st);
     bytes(stripe);
-    bytes(spare);
-    end();
+    last(spare);
 }
 
 // A plan's items: `reads` blocks, each with its coefficient.

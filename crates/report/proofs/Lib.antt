@@ -1,5 +1,3 @@
-pub mod Puts
-pub mod Digits
 pub mod Numbers
 pub mod Parts
 pub mod Lines

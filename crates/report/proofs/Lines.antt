@@ -1,11 +1,10 @@
 -- Proved: how long what is printed of a lost block can be, and that the lines of the blocks go on from one block to the next.
-use Prim.Native.Nat.{ℕ, zero, suc, _+_, _*_, _<_, _≤_}
+use Prim.Native.Nat.{ℕ, _+_, _*_, _<_, _≤_}
 use mathlib.Core.Path.{_≡_, refl, sym, subst}
 use mathlib.Core.Bool.{true, false}
 use mathlib.Core.List.{List, [], _++_, append-nil}
 use native.Mathlib.Omega.{arith}
 use native.Mathlib.Numerals.{add-one}
-use native.Mathlib.Decide.{ℕ-discrete}
 use lib.ListN.{length, getD, length-append}
 use Rattle.linear.specs.Sets.{tally}
 use Rattle.linear.proofs.Existence.{plan-few}
@@ -27,46 +26,13 @@ use Rattle.plan.specs.Codes.{codeOf, InRange, front}
 use Rattle.plan.specs.Plans.{IsListed, Plans}
 use Rattle.plan.proofs.Codes.{code-proper}
 use Rattle.plan.proofs.Listings.{Listed, listOf-listed, entry-below}
-use Rattle.report.specs.Text.{decimal, itemText, itemsText, planText, lineOf}
+use Rattle.report.specs.Line.{planText, lineOf}
 use Rattle.report.specs.Report.{Lines, none, present, lost}
-use Rattle.report.specs.Inner.{Put, Written, Goes}
-use Rattle.report.proofs.Digits.{decimal-below, decimal-short}
-use Rattle.report.proofs.Puts.{put-nothing, put-then}
-
--- ---- items
-
-abbrev item : List ℕ → List ℕ → ℕ → List ℕ
-item block coef i = itemText (getD block i 0) (getD coef i 0)
-
-pub items-more : (block coef : List ℕ) (i : ℕ) → itemsText block coef (i + 1) ≡ itemsText block coef i ++ item block coef i
-unfolding itemsText
-items-more block coef i = rw (add-one i)
-
--- an item that is listed has its room
-pub items-room : (block coef : List ℕ) (i m : ℕ) → i < m
-    → length (itemsText block coef i) + length (item block coef i) ≤ length (itemsText block coef m)
-unfolding itemsText
-items-room block coef i zero h = absurd (omega arith)
-items-room block coef i (suc m) h = at (λ k. items-room block coef i m k) (ℕ-discrete i m)
-  where
-    at : (i < m → length (itemsText block coef i) + length (item block coef i) ≤ length (itemsText block coef m)) → Dec (i ≡ m)
-        → length (itemsText block coef i) + length (item block coef i) ≤ length (itemsText block coef m ++ item block coef m)
-    at ih (yes e) = rw e (omega (arith, length-append (itemsText block coef m) (item block coef m)))
-    at ih (no n) = omega (arith, length-append (itemsText block coef m) (item block coef m), ih (omega arith))
-
-item-short : (s c : ℕ) → s < 48 → length (itemText s c) ≤ 7
-item-short s c h = simp length-append (omega (arith, decimal-below s (omega arith), decimal-short c))
-
-items-short : (block coef : List ℕ) (m : ℕ) → ((i : ℕ) → i < m → getD block i 0 < 48) → length (itemsText block coef m) ≤ 7 * m
-unfolding itemsText
-items-short block coef zero h = omega arith
-items-short block coef (suc m) h =
-    omega (
-      arith,
-      length-append (itemsText block coef m) (item block coef m),
-      item-short (getD block m 0) (getD coef m 0) (h m (omega arith)),
-      items-short block coef m (λ i l. h i (omega arith)),
-    )
+use Rattle.text.specs.Put.{Put}
+use Rattle.report.specs.Inner.{Written, Goes}
+use Rattle.text.proofs.Items.{items-short}
+use Rattle.text.proofs.Digits.{decimal-below, decimal-short}
+use Rattle.text.proofs.Puts.{put-nothing, put-then}
 
 -- ---- a plan
 

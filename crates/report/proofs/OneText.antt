@@ -12,7 +12,8 @@ use Rattle.note.specs.declared.Layout.{Layout}
 use Rattle.rows.specs.Rows.{blocks}
 use Rattle.plan.specs.declared.Standing.{Standing}
 use Rattle.plan.proofs.Verdicts.{plans-unique}
-use Rattle.report.specs.Text.{layoutText, lineOf}
+use Rattle.text.specs.Text.{layoutText}
+use Rattle.report.specs.Line.{lineOf}
 use Rattle.report.specs.Report.{noteSize, standingIn, Lines, none, present, lost, Listed, lines, Asks, met, unmet, Read, Says, Printed, Report}
 
 lines-unique : (l : Layout) (st : Standing) {b : ℕ} {s t : List ℕ} → Lines l st b s → Lines l st b t → s ≡ t

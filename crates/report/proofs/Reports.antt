@@ -19,11 +19,12 @@ use Rattle.marks.specs.Marks.{marked, noneFrom}
 use Rattle.marks.proofs.Bits.{none-from}
 use Rattle.rows.specs.Rows.{blocks}
 use Rattle.plan.specs.declared.Standing.{Standing}
-use Rattle.report.specs.Text.{decimal, refusedText, layoutText}
+use Rattle.text.specs.Text.{refusedText, layoutText}
 use Rattle.report.specs.Report.{noteSize, little, standingIn, Whole, Lines, Listed, lines, Asks, met, unmet, Follows, Says, Report}
-use Rattle.report.specs.Inner.{Put, Written, Parted}
-use Rattle.report.proofs.Digits.{decimal-short}
-use Rattle.report.proofs.Puts.{put-then}
+use Rattle.text.specs.Put.{Put}
+use Rattle.report.specs.Inner.{Written, Parted}
+use Rattle.text.proofs.Digits.{decimal-short}
+use Rattle.text.proofs.Puts.{put-then}
 
 -- ---- the room
 

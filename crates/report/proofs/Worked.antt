@@ -26,7 +26,8 @@ use Rattle.plan.specs.Listing.{listOf}
 use Rattle.plan.specs.Plans.{Plans, refusal}
 use Rattle.plan.proofs.Worked.{marksOf, Case, Right, Each, end, also, cases, cases-right, nothing}
 use Rattle.plan.proofs.Worked as Plan-worked
-use Rattle.report.specs.Text.{decimal, itemsText, lineOf, layoutText}
+use Rattle.text.specs.Text.{decimal, itemsText, layoutText}
+use Rattle.report.specs.Line.{lineOf}
 use Rattle.report.specs.Report.{little, Whole, Lines, none, present, lost, Listed, lines, met, Follows, Says}
 use Rattle.report.specs.Worked.{sampleRest, sampleInput, sampleText}
 

@@ -1,21 +1,12 @@
--- Inside: what the functions that put text promise. No public contract names what stands here.
+-- Inside: what the functions that put lines promise. No public contract names what stands here.
 use mathlib.Core.Path.{_≡_}
 use mathlib.Core.List.{List, _++_}
-use Prim.Native.Nat.{ℕ, suc, _+_, _≤_}
+use Prim.Native.Nat.{ℕ, suc, _≤_}
 use lib.ListN.{length, take, drop}
-use lib.Seq.{sets}
+use Rattle.text.specs.Put.{Put}
 use Rattle.note.specs.declared.Layout.{Layout}
 use Rattle.plan.specs.declared.Standing.{Standing}
 use Rattle.report.specs.Report.{noteSize, Lines}
-
--- there is room for the text at this place
-abbrev pub Room : List ℕ → ℕ → List ℕ → Type 0
-Room text at out = at + length text ≤ length out
-
--- the text stands in `new` from `at` on, all else is as in `old`, and r is where the text ends
-pub record Put (text : List ℕ) (at : ℕ) (old new : List ℕ) (r : ℕ) : Type 0 where
-  pub end : r ≡ at + length text
-  pub bytes : new ≡ sets old at text
 
 -- a text of which P holds was put, of this many bytes or fewer
 pub record Written (P : List ℕ → Type 0) (most at : ℕ) (old new : List ℕ) (r : ℕ) : Type 0 where

@@ -1,4 +1,4 @@
-pub mod Text
+pub mod Line
 pub mod Report
 pub mod Inner
 pub mod Worked

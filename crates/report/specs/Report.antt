@@ -15,7 +15,8 @@ use Rattle.plan.specs.declared.Standing.{Standing}
 use Rattle.plan.specs.declared.Planned.{Planned}
 use Rattle.plan.specs.Codes.{InRange}
 use Rattle.plan.specs.Plans.{Plans}
-use Rattle.report.specs.Text.{refusedText, layoutText, lineOf}
+use Rattle.text.specs.Text.{refusedText, layoutText}
+use Rattle.report.specs.Line.{lineOf}
 
 -- ---- the input
 

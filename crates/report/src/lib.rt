@@ -1,16 +1,14 @@
 // The report on a stripe: which blocks are lost, and the plan of each, as text.
-mod text;
-
 ghost use mathlib.Core.Path.{_≡_};
-ghost use mathlib.Core.List.{List};
 ghost use Prim.Native.Nat.{_+_, _*_, _<_, _≤_};
 ghost use lib.ListN.{length};
 ghost use Rattle.note.specs.Note.{word, lengthAt};
 ghost use Rattle.note.specs.Given.{Given, Tells};
 ghost use Rattle.rows.specs.Rows.{blocks};
-ghost use Rattle.report.specs.Text.{planText, lineOf};
+ghost use Rattle.report.specs.Line.{planText, lineOf};
 ghost use Rattle.report.specs.Report.{little, Whole, Lines, Follows, Report};
-ghost use Rattle.report.specs.Inner.{Room, Put, Written, Goes, Parted};
+ghost use Rattle.text.specs.Put.{Room, Put};
+ghost use Rattle.report.specs.Inner.{Written, Goes, Parted};
 use note::Layout;
 use plan::Answer;
 use plan::Planned;

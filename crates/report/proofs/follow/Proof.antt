@@ -6,7 +6,7 @@ use Rattle.report.specs.Report.{Whole}
 use borrow.Author.Tests.{not-true, not-false}
 use Rattle.note.proofs.Facts.{given-proper}
 use Rattle.plan.proofs.Verdicts.{told-yes, told-no}
-use Rattle.report.proofs.Puts.{put-length}
+use Rattle.text.proofs.Puts.{put-length}
 use Rattle.report.proofs.Reports.{refused-room, layout-short, written-unmet, follow-stray, follow-listed}
 use borrow.Author.Needs.{needs}
 use Rattle.report.proofs.follow.Statement.{statement}

@@ -1,8 +1,8 @@
 -- Proved: `put_line` meets its contract.
 use native.Mathlib.Omega.{arith}
 use lib.ListN.{length-append}
-use Rattle.report.proofs.Puts.{put-then, put-length}
-use Rattle.report.proofs.Digits.{decimal-short}
+use Rattle.text.proofs.Puts.{put-then, put-length}
+use Rattle.text.proofs.Digits.{decimal-short}
 use borrow.Author.Needs.{needs}
 use Rattle.report.proofs.put_line.Statement.{statement}
 use Rattle.report.proofs.put_line.Tie as tie

@@ -4,7 +4,7 @@ use mathlib.Core.Path.{_≡_}
 use native.Mathlib.Omega.{arith}
 use Rattle.report.specs.Report.{Lines}
 use Rattle.report.specs.Inner.{Written}
-use Rattle.report.proofs.Puts.{put-length}
+use Rattle.text.proofs.Puts.{put-length}
 use Rattle.report.proofs.Lines.{lines-none, lines-more}
 use borrow.Author.Needs.{needs}
 use Rattle.report.proofs.put_lines.Statement.{statement}

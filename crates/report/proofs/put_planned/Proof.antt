@@ -2,9 +2,9 @@
 use mathlib.Core.Path.{_≡_}
 use native.Mathlib.Omega.{arith}
 use lib.ListN.{length}
-use Rattle.report.proofs.Puts.{put-then, put-length}
-use Rattle.report.specs.Text.{decimal}
-use Rattle.report.proofs.Digits.{decimal-short}
+use Rattle.text.proofs.Puts.{put-then, put-length}
+use Rattle.text.specs.Text.{decimal}
+use Rattle.text.proofs.Digits.{decimal-short}
 use borrow.Author.Needs.{needs}
 use Rattle.report.proofs.put_planned.Statement.{statement}
 use Rattle.report.proofs.put_planned.Tie as tie

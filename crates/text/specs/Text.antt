@@ -4,10 +4,6 @@ use mathlib.Core.List.{List, [], _∷_, _++_}
 use Prim.Native.Nat.{ℕ, zero, suc, _+_, _/_, _%_}
 use lib.Dec.{ltb}
 use lib.ListN.{getD}
-use Rattle.plan.specs.declared.Plan.{Plan}
-use Rattle.plan.specs.declared.Answer.{Answer}
-use Rattle.plan.specs.declared.Answer.the-variants.{Done, Refused}
-use Rattle.plan.specs.declared.Planned.{Planned}
 
 -- a number below 1,000 in decimal; the digit d is the byte 48 + d
 unfoldable pub decimal : ℕ → List ℕ
@@ -36,12 +32,3 @@ itemText s c = (32 ∷ []) ++ decimal s ++ (42 ∷ []) ++ decimal c
 unfoldable pub itemsText : List ℕ → List ℕ → ℕ → List ℕ
 itemsText block coef zero = []
 itemsText block coef (suc i) = itemsText block coef i ++ itemText (getD block i 0) (getD coef i 0)
-
--- of a lost block: its plan, or the number of the refusal
-abbrev pub planText : Answer → Plan → List ℕ
-planText Done p = itemsText (p .block) (p .coef) (p .reads)
-planText (Refused number) p = (32 ∷ []) ++ decimal number
-
--- "lost b", and what is answered to the question for its plan
-abbrev pub lineOf : ℕ → Planned → List ℕ
-lineOf b r = (108 ∷ 111 ∷ 115 ∷ 116 ∷ 32 ∷ []) ++ decimal b ++ planText (r .answer) (r .plan) ++ (10 ∷ [])

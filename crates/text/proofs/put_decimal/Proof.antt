@@ -2,11 +2,11 @@
 use mathlib.Core.Path.{ap}
 use native.Mathlib.Omega.{arith}
 use lib.ListN.{length}
-use Rattle.report.proofs.Puts.{put-then, put-length}
-use Rattle.report.proofs.Digits.{decimal-one, decimal-two, decimal-three}
+use Rattle.text.proofs.Puts.{put-then, put-length}
+use Rattle.text.proofs.Digits.{decimal-one, decimal-two, decimal-three}
 use borrow.Author.Needs.{needs}
-use Rattle.report.proofs.text.put_decimal.Statement.{statement}
-use Rattle.report.proofs.text.put_decimal.Tie as tie
+use Rattle.text.proofs.put_decimal.Statement.{statement}
+use Rattle.text.proofs.put_decimal.Tie as tie
 
 add-put : tie.Need-add-put
 add-put c = search needs

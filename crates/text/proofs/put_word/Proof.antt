@@ -2,11 +2,11 @@
 use Prim.Native.Nat.{_-_, _+_, _≤_}
 use native.Mathlib.Omega.{arith}
 use lib.ListN.{length, take}
-use Rattle.report.specs.Inner.{Put}
-use Rattle.report.proofs.Puts.{put-none, put-more, put-whole, put-length}
+use Rattle.text.specs.Put.{Put}
+use Rattle.text.proofs.Puts.{put-none, put-more, put-whole, put-length}
 use borrow.Author.Needs.{needs}
-use Rattle.report.proofs.text.put_word.Statement.{statement}
-use Rattle.report.proofs.text.put_word.Tie as tie
+use Rattle.text.proofs.put_word.Statement.{statement}
+use Rattle.text.proofs.put_word.Tie as tie
 
 abbrev Inv-loop : tie.InvT-loop
 Inv-loop out₀ at word i₀ out i = Put (take i word) at out₀ out (at + i) × (i ≤ length word)

@@ -1,10 +1,10 @@
 -- Proved: `put_item` meets its contract.
 use native.Mathlib.Omega.{arith}
 use lib.ListN.{length-append}
-use Rattle.report.proofs.Puts.{put-then, put-length}
+use Rattle.text.proofs.Puts.{put-then, put-length}
 use borrow.Author.Needs.{needs}
-use Rattle.report.proofs.text.put_item.Statement.{statement}
-use Rattle.report.proofs.text.put_item.Tie as tie
+use Rattle.text.proofs.put_item.Statement.{statement}
+use Rattle.text.proofs.put_item.Tie as tie
 
 put-requires : tie.Need-put-requires
 put-requires c κs = omega (arith, simp length-append at (c .before .before .pre))

@@ -5,9 +5,9 @@ use mathlib.Core.List.{List, [], _∷_, _++_}
 use native.Mathlib.Omega.{arith}
 use native.Mathlib.Numerals.{add-one}
 use lib.ListN.{length, getD, set, take, length-append}
-use lib.Seq.{sets, length-sets, take-suc, take-all}
+use lib.Seq.{length-sets, take-suc, take-all}
 use Rattle.note.proofs.Advance.{sets-append}
-use Rattle.report.specs.Inner.{Put}
+use Rattle.text.specs.Put.{Put}
 
 -- nothing is put
 pub put-nothing : (at : ℕ) (a : List ℕ) → Put [] at a a at

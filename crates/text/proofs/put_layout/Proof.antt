@@ -1,10 +1,10 @@
 -- Proved: `put_layout` meets its contract.
 use native.Mathlib.Omega.{arith}
 use lib.ListN.{length-append}
-use Rattle.report.proofs.Puts.{put-then, put-length}
+use Rattle.text.proofs.Puts.{put-then, put-length}
 use borrow.Author.Needs.{needs}
-use Rattle.report.proofs.text.put_layout.Statement.{statement}
-use Rattle.report.proofs.text.put_layout.Tie as tie
+use Rattle.text.proofs.put_layout.Statement.{statement}
+use Rattle.text.proofs.put_layout.Tie as tie
 
 slice-aggregate-put-numbered : tie.Need-slice-aggregate-put-numbered
 slice-aggregate-put-numbered c = search needs

@@ -3,13 +3,13 @@ use Prim.Native.Nat.{_-_, _≤_}
 use mathlib.Core.Path.{_≡_}
 use native.Mathlib.Omega.{arith}
 use lib.ListN.{length-append}
-use Rattle.report.specs.Text.{itemsText}
-use Rattle.report.specs.Inner.{Put}
-use Rattle.report.proofs.Puts.{put-nothing, put-then, put-length}
-use Rattle.report.proofs.Lines.{items-more, items-room}
+use Rattle.text.specs.Text.{itemsText}
+use Rattle.text.specs.Put.{Put}
+use Rattle.text.proofs.Puts.{put-nothing, put-then, put-length}
+use Rattle.text.proofs.Items.{items-more, items-room}
 use borrow.Author.Needs.{needs}
-use Rattle.report.proofs.text.put_items.Statement.{statement}
-use Rattle.report.proofs.text.put_items.Tie as tie
+use Rattle.text.proofs.put_items.Statement.{statement}
+use Rattle.text.proofs.put_items.Tie as tie
 
 abbrev Inv-loop : tie.InvT-loop
 Inv-loop out₀ at block coef reads e₀ i₀ out e i = Put (itemsText block coef i) at out₀ out e × (i ≤ reads)

@@ -1,10 +1,10 @@
 -- Proved: `put_numbered` meets its contract.
 use native.Mathlib.Omega.{arith}
 use lib.ListN.{length-append}
-use Rattle.report.proofs.Puts.{put-then, put-length}
+use Rattle.text.proofs.Puts.{put-then, put-length}
 use borrow.Author.Needs.{needs}
-use Rattle.report.proofs.text.put_numbered.Statement.{statement}
-use Rattle.report.proofs.text.put_numbered.Tie as tie
+use Rattle.text.proofs.put_numbered.Statement.{statement}
+use Rattle.text.proofs.put_numbered.Tie as tie
 
 put-word-requires : tie.Need-put-word-requires
 put-word-requires c κs =

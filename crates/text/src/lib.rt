@@ -1,10 +1,9 @@
 // Text, put into a buffer at a place; each function answers where it ends. The caller sees to the room.
-ghost use mathlib.Core.Path.{_≡_};
 ghost use mathlib.Core.List.{[], _∷_};
 ghost use Prim.Native.Nat.{_<_, _≤_};
 ghost use lib.ListN.{length};
-ghost use Rattle.report.specs.Text.{decimal, numbered, refusedText, layoutText, itemText, itemsText};
-ghost use Rattle.report.specs.Inner.{Room, Put};
+ghost use Rattle.text.specs.Text.{decimal, numbered, refusedText, layoutText, itemText, itemsText};
+ghost use Rattle.text.specs.Put.{Room, Put};
 
 // A byte.
 pub fn put(out: &mut [u8], at: usize, x: u8) -> usize
