@@ -11,6 +11,7 @@ ghost use Rattle.price.specs.Inner.{ReadAlone, ReadAll};
 use note::Layout;
 
 // The most storage ratio and the most mean reads. Infinities are limits.
+#[repr(C)]
 pub struct Limits {
     pub storage: f64,
     pub reads: f64,

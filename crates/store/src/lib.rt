@@ -22,12 +22,13 @@ pub struct Said {
 }
 
 // The standing after a call, and its answer.
-struct Left {
-    standing: Standing,
-    said: Said,
+pub struct Left {
+    pub standing: Standing,
+    pub said: Said,
 }
 
-fn say(a: Answer) -> Said
+// An answer in numbers.
+pub fn say(a: Answer) -> Said
     ensures { λ r. ⌜ r ≡ spoken a ⌝ }
 {
     match a {
@@ -42,6 +43,7 @@ fn say(a: Answer) -> Said
     }
 }
 
+// A rebuild's answer in numbers.
 fn name(a: Rebuilding) -> Said
     ensures { λ r. ⌜ r ≡ named a ⌝ }
 {
@@ -61,7 +63,7 @@ fn name(a: Rebuilding) -> Said
     }
 }
 
-fn encode_core(l: Layout, st: Standing, stripe: &mut [u8]) -> Left
+pub fn encode_core(l: Layout, st: Standing, stripe: &mut [u8]) -> Left
     ensures { λ r. ⌜ Encode l st (now (stripe .entry)) (r .said) (r .standing) (now (stripe .exit)) ⌝ }
 {
     let r = stripe::encode_by(l, st, stripe);
@@ -74,7 +76,7 @@ fn encode_core(l: Layout, st: Standing, stripe: &mut [u8]) -> Left
     }
 }
 
-fn lose_core(l: Layout, st: Standing, b: usize) -> Left
+pub fn lose_core(l: Layout, st: Standing, b: usize) -> Left
     ensures { λ r. ⌜ Lose l st b (r .said) (r .standing) ⌝ }
 {
     let r = stripe::lose_by(l, st, b);
@@ -87,7 +89,7 @@ fn lose_core(l: Layout, st: Standing, b: usize) -> Left
     }
 }
 
-fn repair_core(l: Layout, st: Standing, stripe: &mut [u8], b: usize) -> Left
+pub fn repair_core(l: Layout, st: Standing, stripe: &mut [u8], b: usize) -> Left
     ensures { λ r. ⌜ Repair l st (now (stripe .entry)) b (r .said) (r .standing) (now (stripe .exit)) ⌝ }
 {
     let r = stripe::repair_by(l, st, stripe, b);
@@ -100,7 +102,7 @@ fn repair_core(l: Layout, st: Standing, stripe: &mut [u8], b: usize) -> Left
     }
 }
 
-fn rebuild_core(l: Layout, st: Standing, stripe: &mut [u8]) -> Left
+pub fn rebuild_core(l: Layout, st: Standing, stripe: &mut [u8]) -> Left
     ensures { λ r. ⌜ Rebuild l st (now (stripe .entry)) (r .said) (r .standing) (now (stripe .exit)) ⌝ }
 {
     let r = stripe::rebuild_by(l, st, stripe);
