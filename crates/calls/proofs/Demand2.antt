@@ -7,21 +7,16 @@ use Prim.Native.Nat.{ℕ, suc, _<_, _≤_}
 use native.Mathlib.Decide.{ℕ-discrete}
 use lib.ListN.{length, getD}
 use Rattle.linear.specs.Sets.{insert}
-use Rattle.linear.specs.Rank.{Rank}
 use Rattle.linear.proofs.Sets.{in-and-out, insert-same, insert-other}
 use Rattle.linear.proofs.Combinations.{combo-row}
 use Rattle.linear.proofs.Ranks.{rank-le, rank-loss, rank-repair}
 use Rattle.calls.specs.Code.{Code, Proper, HasPlan, survivors}
 use Rattle.calls.specs.Calls.{Stripe, lose, repair, Refusal, by, Answer, done, refused, ByPlan, Step, Fetch}
-use Rattle.calls.specs.Demands.{Fixed, Written, Decided}
+use Rattle.calls.specs.Demands.{Fixed, Written, Decided, Independents}
 use Rattle.calls.proofs.Plans.{Span, fixed-iff, plan-none, plan-back, span-repair}
 use Rattle.calls.proofs.Needs.{undone, past}
 use Rattle.calls.proofs.Answers.{repair-met, fetch-met}
 use Rattle.calls.proofs.Held.{by-plan-right}
-
--- the independent rows among the survivors are r
-abbrev pub Independents : Code → (ℕ → Bool) → ℕ → Type 0
-Independents c lost r = Rank (c .n) (c .k) (c .row) (survivors lost) r
 
 module _ (c : Code) (p : Proper c) where
   written : {s : Stripe} {b : ℕ} {out : ℕ → ℕ} → b < c .n → ByPlan c (s .lost) s b out → Written c s b out

@@ -9,7 +9,7 @@ use native.Mathlib.Omega.{arith}
 use native.Mathlib.Decide.{ℕ-discrete}
 use Rattle.calls.specs.Code.{Code, Proper, HasPlan}
 use Rattle.calls.specs.Calls.{Stripe, repair, rebuild, done, Verdict, Repaired, Repairs, start, pass, next, Step}
-use Rattle.calls.specs.Demands.{Holds, Alike, a-repair, Turn, Run, rest, turn}
+use Rattle.calls.specs.Demands.{Holds, Alike, a-repair, Turn, Run, rest, turn, rising}
 use Rattle.calls.proofs.Plans.{Span, span-repair, has-plan-iff}
 use Rattle.calls.proofs.Held.{repaired-holds}
 
@@ -33,11 +33,6 @@ module _ (c : Code) where
       at h (no e) = x .marks a e ∙ h (omega arith)
 
 -- ---- a rebuild as a run
-
--- accepted repairs of the lost blocks below b, in rising order
-abbrev pub rising : (ℕ → Bool) → ℕ → List Turn
-rising lost zero = []
-rising lost (suc b) = rising lost b ++ cond (lost b) (record { call = repair b; answer = done } ∷ []) []
 
 module _ (c : Code) where
   pub alike-self : (s : Stripe) → Alike c s s

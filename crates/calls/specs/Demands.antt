@@ -4,11 +4,12 @@ use mathlib.Core.Path.{_≡_}
 use mathlib.Core.Logic.{_⊎_}
 use mathlib.Core.List.{List, [], _∷_, _++_, List·Memᴰ, map}
 use mathlib.Core.Bool.{Bool, true, false, _||_, _&&_, not, cond}
-use Prim.Native.Nat.{ℕ, _+_, _<_, _≤_}
+use Prim.Native.Nat.{ℕ, zero, suc, _+_, _<_, _≤_}
 use lib.Dec.{eqb}
 use Rattle.field.specs.Field.{_⊕_, mul}
 use Rattle.linear.specs.Sums.{sumTo}
 use Rattle.linear.specs.Blocks.{FromBlocks}
+use Rattle.linear.specs.Rank.{Rank}
 use Rattle.calls.specs.Code.{Code, enc, survivors}
 use Rattle.calls.specs.Calls.{Stripe, Call, encode, lose, repair, rebuild, correct, fetch, Answer, done, refused, by, Verdict, ByPlan, Step, laid}
 
@@ -48,6 +49,10 @@ abbrev pub Decided : Code → Stripe → ℕ → Answer → (ℕ → ℕ) → Ty
 Decided c s b a out =
     ((Fixed c (s .lost) b → ⊥) × (a ≡ refused (by 14))) ⊎ (Fixed c (s .lost) b × (a ≡ done) × Written c s b out)
 
+-- "The number of independent rows among the survivors" is r
+abbrev pub Independents : Code → (ℕ → Bool) → ℕ → Type 0
+Independents c lost r = Rank (c .n) (c .k) (c .row) (survivors lost) r
+
 -- ---- demand 3: runs
 
 -- "losses, repairs and corrections"
@@ -69,6 +74,11 @@ pub data Run (c : Code) : Stripe → List Turn → Stripe → Type 0 where
 
 abbrev pub calls : List Turn → List Call
 calls = map (λ g. g .call)
+
+-- "single repairs of every lost block, in rising block order": those of the blocks below b, each accepted
+abbrev pub rising : (ℕ → Bool) → ℕ → List Turn
+rising lost zero = []
+rising lost (suc b) = rising lost b ++ cond (lost b) (record { call = repair b; answer = done } ∷ []) []
 
 -- the call is a repair of b
 unfoldable pub fixes : Call → ℕ → Bool

@@ -13,11 +13,11 @@ use Rattle.rows.specs.Rows.{blocks}
 use Rattle.calls.specs.Code.{Code, Proper}
 use Rattle.calls.specs.Calls as Calls
 use Rattle.calls.specs.Calls.{Stripe, Call, encode, rebuild, _unless_, by, done, refused, Verdict, Encoded, Outcome, Step}
-use Rattle.calls.specs.Demands.{Alike, Same, Comes, a-loss, a-repair, a-correction, Turn, Run, turn, calls, laidIn, Tidy, Settled, Agree}
+use Rattle.calls.specs.Demands.{Alike, Same, Comes, a-loss, a-repair, a-correction, Turn, Run, turn, calls, laidIn, Tidy, Settled, Agree, rising}
 use Rattle.calls.proofs.Needs.{undone, done-met, All-met, none, also}
 use Rattle.calls.proofs.Answers.{sound-step, done-step, repair-met, rebuild-refused}
 use Rattle.calls.proofs.Outcomes.{outcome-alike}
-use Rattle.calls.proofs.Rebuilds.{rising, rebuild-run, repairs-below, alike-self, alike-trans}
+use Rattle.calls.proofs.Rebuilds.{rebuild-run, repairs-below, alike-self, alike-trans}
 use Rattle.calls.proofs.Lists.{same-list}
 use Rattle.calls.proofs.Runs as Abstract
 use Rattle.calls.proofs.Orders as Orders

@@ -17,12 +17,12 @@ use Rattle.rows.specs.Rows.{blocks}
 use Rattle.calls.specs.Code.{Code, Proper, HasPlan}
 use Rattle.calls.specs.Calls as Calls
 use Rattle.calls.specs.Calls.{Stripe, Call, encode, lose, repair, correct, done, Verdict, Effect}
-use Rattle.calls.specs.Demands.{Turn, calls}
+use Rattle.calls.specs.Demands.{Turn, calls, rising}
 use Rattle.calls.proofs.Needs.{decided}
 use Rattle.calls.proofs.Answers.{verdict-unique}
 use Rattle.calls.proofs.Plans.{has-plan-dec}
 use Rattle.calls.proofs.Existence.{Typed, any-outcome, listed, length-listed, getD-listed}
-use Rattle.calls.proofs.Rebuilds.{rising, alike-self}
+use Rattle.calls.proofs.Rebuilds.{alike-self}
 use Rattle.pieces.proofs.Blocks.{under}
 use Rattle.plan.specs.declared.Standing.{Standing}
 use Rattle.plan.specs.declared.Answer.{Answer}
