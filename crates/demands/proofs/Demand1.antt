@@ -32,7 +32,7 @@ use Rattle.price.specs.declared.Price as Sheet
 use Rattle.price.specs.Sheet as Sheets
 use Rattle.stripe.specs.declared.Rebuilding.{Rebuilding}
 use Rattle.stripe.specs.declared.Rebuilding.the-variants.{Whole, Denied, NoPlan}
-use Rattle.stripe.specs.Stripes.{Sized, stripeOf, told, PartOf, Part, Viewed}
+use Rattle.stripe.specs.Stripes.{Sized, stripeOf, told, PartOf, HandedBack, Viewed}
 use Rattle.stripe.proofs.Viewing.{inside}
 use Rattle.store.specs.declared.Said.{Said}
 use Rattle.store.specs.Answers.{spoken, named}
@@ -132,7 +132,7 @@ module _ {l : Layout} {st : Standing} where
     accepted,
   )
     where
-      empty : (a : Calls.Answer) → Part st b stripe spare a r → (number-of a ≡ 0 → ⊥) → now r ≡ []
+      empty : (a : Calls.Answer) → HandedBack st b stripe spare a r → (number-of a ≡ 0 → ⊥) → now r ≡ []
       empty done p n = absurd (n refl)
       empty (refused _) p n = p .holds
 
@@ -145,7 +145,7 @@ module _ {l : Layout} {st : Standing} where
           let nine = done-met (not-by e (omega arith)) (eight .1) in
           let thirteen = done-met (not-by e (omega arith)) (nine .1) in
           let fourteen = done-met (not-by e (omega arith)) (thirteen .1) in
-          let v : Viewed st b stripe spare r = subst (λ (a : Calls.Answer). Part st b stripe spare a r) (fourteen .1) (h .part) in
+          let v : Viewed st b stripe spare r = subst (λ (a : Calls.Answer). HandedBack st b stripe spare a r) (fourteen .1) (h .part) in
           let o : length (now r) ≡ 0 = ap length q in
           omega (arith, seven .0 .range .least, long v (seven .0) (nine .0) (thirteen .0) (marked (st .lost) b) refl)
         where

@@ -31,7 +31,7 @@ use Rattle.stripe.specs.declared.Stood.{Stood}
 use Rattle.stripe.specs.declared.Rebuilding.{Rebuilding}
 use Rattle.stripe.specs.declared.Rebuilding.the-variants.{Whole, Denied, NoPlan}
 use Rattle.stripe.specs.declared.Rebuilt.{Rebuilt}
-use Rattle.stripe.specs.Stripes.{Sized, stripeOf, told, Encodes, Loses, RepairsOne, RebuildsAll, Corrects, Fetches, PartOf, Part, Views}
+use Rattle.stripe.specs.Stripes.{Sized, stripeOf, told, Encodes, Loses, RepairsOne, RebuildsAll, Corrects, Fetches, PartOf, HandedBack, Views}
 
 -- ---- answers and standings
 
@@ -67,7 +67,7 @@ part-of-one : {s r r′ : RefT (List ℕ)} {at m : ℕ} → PartOf s at m r → 
 part-of-one p p′ = (p .holds ∙ sym (p′ .holds), p .place ∙ sym (p′ .place))
 
 module _ (st : Standing) (b : ℕ) (stripe spare r r′ : RefT (List ℕ)) where
-  part-one : (a : Calls.Answer) → Part st b stripe spare a r → Part st b stripe spare a r′ → (now r ≡ now r′) × (r .ptr ≡ r′ .ptr)
+  part-one : (a : Calls.Answer) → HandedBack st b stripe spare a r → HandedBack st b stripe spare a r′ → (now r ≡ now r′) × (r .ptr ≡ r′ .ptr)
   part-one (refused _) p p′ = part-of-one p p′
   part-one done p p′ = at (marked (st .lost) b) refl
     where
@@ -237,7 +237,7 @@ module _ {l : Layout} {st : Standing} where
       → (now r ≡ now r′) × (r .ptr ≡ r′ .ptr)
   views-unique {b} {stripe} {spare} {r} {r′} v v′ =
       part-one st b stripe spare r r′ (v .answer) (v .part)
-      (subst (λ (a : Calls.Answer). Part st b stripe spare a r′) (verdict-unique (v′ .verdict) (v .verdict)) (v′ .part))
+      (subst (λ (a : Calls.Answer). HandedBack st b stripe spare a r′) (verdict-unique (v′ .verdict) (v .verdict)) (v′ .part))
 
 -- ---- BYTES STANDING WHERE A LOST BLOCK WAS COUNT FOR NOTHING
 

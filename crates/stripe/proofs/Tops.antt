@@ -17,7 +17,8 @@ use Rattle.marks.proofs.Bits.{marked-without, remove-same, remove-other}
 use Rattle.rows.specs.Rows.{blocks}
 use Rattle.rows.specs.Answers.{Matrix}
 use Rattle.calls.specs.Code.{HasPlan}
-use Rattle.calls.specs.Calls.{stripe, repair, fetch, correct, Verdict, Repaired}
+use Rattle.calls.specs.Calls as Calls
+use Rattle.calls.specs.Calls.{stripe, repair, fetch, correct, by, done, refused, Verdict, Repaired}
 use Rattle.calls.proofs.Plans.{has-plan-iff}
 use Rattle.plan.specs.declared.Standing.{Standing}
 use Rattle.plan.specs.declared.Answer.the-variants.{Done, Refused}
@@ -112,62 +113,61 @@ module _ (l : Layout) (st : Standing) (b : ℕ) (xs : List ℕ) where
 
 -- ---- fetches
 
-module _ (l : Layout) (st : Standing) (b : ℕ) (xs old : List ℕ) where
-  fetch-refused : (number : ℕ)
-      → Verdict (front l st (Sized l (st .len) (length xs))) (codeOf l (st .len)) (marked (st .lost)) (fetch b (length old)) (said (Refused number))
-      → Fetches l st b xs old old (Refused number)
-  fetch-refused number v = record { fetch = record { outcome = record { verdict = v; effect = refl }; spare = refl } }
+-- the answer to a fetch, by numbers: `size` bytes of stripe, `room` bytes of spare
+module _ (l : Layout) (st : Standing) (b size room : ℕ) where
+  abbrev pub FetchIs : Calls.Answer → Type 0
+  FetchIs a = Verdict (front l st (Sized l (st .len) size)) (codeOf l (st .len)) (marked (st .lost)) (fetch b room) a
 
-  pub fetches-front : (f : ℕ) → FrontSays l st (Sized l (st .len) (length xs)) f → (f ≡ 0 → ⊥) → Fetches l st b xs old old (Refused f)
-  fetches-front f says n = fetch-refused f (front-refused says n (codeOf l (st .len)) (marked (st .lost)) (fetch b (length old)))
+  pub fetch-front : (f : ℕ) → FrontSays l st (Sized l (st .len) size) f → (f ≡ 0 → ⊥) → FetchIs (refused (by f))
+  fetch-front f says n = front-refused says n (codeOf l (st .len)) (marked (st .lost)) (fetch b room)
 
-  module _ (s : Sound l st (Sized l (st .len) (length xs))) where
-    pub fetches-9 : blocks l ≤ b → Fetches l st b xs old old (Refused 9)
-    fetches-9 h = fetch-refused 9 (record { first = inr (s .given, inr (s .size, inr (s .unmarked, inl (λ k. omega arith, refl)))) })
+  module _ (s : Sound l st (Sized l (st .len) size)) where
+    pub fetch-9 : blocks l ≤ b → FetchIs (refused (by 9))
+    fetch-9 h = record { first = inr (s .given, inr (s .size, inr (s .unmarked, inl (λ k. omega arith, refl)))) }
 
     module _ (below : b < blocks l) where
-      pub fetches-13 : (length old ≡ st .len → ⊥) → Fetches l st b xs old old (Refused 13)
-      fetches-13 n = fetch-refused 13 (record { first = inr (s .given, inr (s .size, inr (s .unmarked, inr (below, inl (n, refl))))) })
+      pub fetch-13 : (room ≡ st .len → ⊥) → FetchIs (refused (by 13))
+      fetch-13 n = record { first = inr (s .given, inr (s .size, inr (s .unmarked, inr (below, inl (n, refl))))) }
 
-      module _ (fits : length old ≡ st .len) where
-        pub fetches-present : marked (st .lost) b ≡ false → Fetches l st b xs old old Done
-        fetches-present e =
-            record {
-              fetch = record {
-                outcome = record {
-                  verdict = record {
-                    first = inr (s .given, inr (s .size, inr (s .unmarked, inr (below, inr (fits, inr (λ h. in-and-out h e, refl))))));
-                  };
-                  effect = refl;
-                };
-                spare = record { long = refl; block = λ h. in-and-out h e; present = λ h. refl };
-              };
-            }
+      module _ (fits : room ≡ st .len) where
+        pub fetch-present : marked (st .lost) b ≡ false → FetchIs done
+        fetch-present e = record { first = inr (s .given, inr (s .size, inr (s .unmarked, inr (below, inr (fits, inr (λ h. in-and-out h e, refl)))))) }
 
         module _ (lost : marked (st .lost) b ≡ true) {a : Linear.Answer} (x : Coefficients l (st .lost) b a) where
-          pub fetches-14 : a .found ≡ false → Fetches l st b xs old old (Refused 14)
-          fetches-14 e =
-              fetch-refused 14
-              (record { first = inr (s .given, inr (s .size, inr (s .unmarked, inr (below, inr (fits, inl (λ h. x .none e (h lost), refl)))))) })
+          pub fetch-14 : a .found ≡ false → FetchIs (refused (by 14))
+          fetch-14 e = record { first = inr (s .given, inr (s .size, inr (s .unmarked, inr (below, inr (fits, inl (λ h. x .none e (h lost), refl)))))) }
 
-          -- a fetch of a lost block that has a plan is accepted
-          pub fetch-planned : a .found ≡ true
-              → Verdict (front l st (Sized l (st .len) (length xs))) (codeOf l (st .len)) (marked (st .lost)) (fetch b (length old)) (said Done)
+          pub fetch-planned : a .found ≡ true → FetchIs done
           fetch-planned found =
               record { first = inr (s .given, inr (s .size, inr (s .unmarked, inr (below, inr (fits, inr (λ h. has-plan l (s .given) (st .len) (st .lost) b x below found, refl)))))) }
 
-          pub fetches-done : a .found ≡ true → (new : List ℕ) → Gathered (a .coef) xs (st .len) new → Fetches l st b xs old new Done
-          fetches-done found new G =
-              record {
-                fetch = record {
-                  outcome = record { verdict = fetch-planned found; effect = refl };
-                  spare = record {
-                    long = G .long ∙ sym fits;
-                    block = λ h. by-plan (codeOf l (st .len)) (marked (st .lost)) refl (planned l (s .given) (st .len) (st .lost) b x found) G;
-                    present = λ h. in-and-out lost h;
-                  };
-                };
-              }
+module _ (l : Layout) (st : Standing) (b : ℕ) (xs old : List ℕ) where
+  pub fetches-refused : (number : ℕ) → FetchIs l st b (length xs) (length old) (refused (by number)) → Fetches l st b xs old old (Refused number)
+  fetches-refused number v = record { fetch = record { outcome = record { verdict = v; effect = refl }; spare = refl } }
+
+  module _ (v : FetchIs l st b (length xs) (length old) done) where
+    pub fetches-present : marked (st .lost) b ≡ false → Fetches l st b xs old old Done
+    fetches-present e =
+        record {
+          fetch = record {
+            outcome = record { verdict = v; effect = refl };
+            spare = record { long = refl; block = λ h. in-and-out h e; present = λ h. refl };
+          };
+        }
+
+    pub fetches-done : Given l → length old ≡ st .len → marked (st .lost) b ≡ true → {a : Linear.Answer} → Coefficients l (st .lost) b a → a .found ≡ true
+        → (new : List ℕ) → Gathered (a .coef) xs (st .len) new → Fetches l st b xs old new Done
+    fetches-done given fits lost x found new G =
+        record {
+          fetch = record {
+            outcome = record { verdict = v; effect = refl };
+            spare = record {
+              long = G .long ∙ sym fits;
+              block = λ h. by-plan (codeOf l (st .len)) (marked (st .lost)) refl (planned l given (st .len) (st .lost) b x found) G;
+              present = λ h. in-and-out lost h;
+            };
+          };
+        }
 
 -- ---- corrections
 

@@ -1,34 +1,25 @@
--- Proved: which facts make which part of a view. Its verdict is that of a fetch of the same stripe and spare.
-use mathlib.Core.Path.{_≡_, sym, ap, _∙_}
-use mathlib.Core.Bool.{true, false}
+-- Proved: which facts make which part of a view in numbers, that it lies inside its slice, and that a slice cut there is the part of a view.
+use mathlib.Core.Path.{_≡_, refl, ap, _∙_, subst}
+use mathlib.Core.Bool.{Bool, true, false}
 use mathlib.Core.List.{List}
-use Prim.Native.Nat.{ℕ, _+_, _-_, _*_, _<_, _≤_}
-use native.Mathlib.Nat.{zero-add}
+use Prim.Native.Nat.{ℕ, zero, suc, _+_, _-_, _*_, _<_, _≤_}
 use native.Mathlib.Omega.{arith}
 use denote.Ref.{RefT, now}
 use lib.ListN.{length, take, drop}
-use lib.Seq.{take-all}
-use Rattle.linear.specs.declared.Answer as Linear
-use Rattle.linear.proofs.Sets.{in-and-out}
 use Rattle.note.specs.declared.Layout.{Layout}
 use Rattle.marks.specs.Marks.{marked}
 use Rattle.rows.specs.Rows.{blocks}
-use Rattle.calls.specs.Calls.{done}
+use Rattle.calls.specs.Calls as Calls
+use Rattle.calls.specs.Calls.{by, done, refused}
+use Rattle.calls.proofs.Needs.{undone, done-met}
+use Rattle.calls.proofs.Answers.{fetch-met}
 use Rattle.pieces.proofs.Blocks.{under}
 use Rattle.plan.specs.declared.Standing.{Standing}
-use Rattle.plan.specs.declared.Answer.the-variants.{Refused}
-use Rattle.plan.specs.Plans.{said}
-use Rattle.plan.specs.Inner.{Coefficients}
-use Rattle.plan.specs.Front.{FrontSays}
-use Rattle.stripe.specs.Stripes.{Sized, Fetches, PartOf, Views}
-use Rattle.plan.proofs.Fronts.{Sound}
-use Rattle.stripe.proofs.Tops.{fetches-front, fetches-9, fetches-13, fetches-present, fetches-14, fetch-planned}
+use Rattle.stripe.specs.declared.Part.{Part}
+use Rattle.stripe.specs.Stripes.{Sized, PartOf, HandedBack, partIn, Placed, Views}
+use Rattle.stripe.proofs.Tops.{FetchIs}
 
 -- ---- parts
-
--- a part that stands where the slice starts
-pub first-part : (s r : RefT (List ℕ)) (m : ℕ) → now r ≡ take m (now s) → r .ptr ≡ s .ptr → PartOf s 0 m r
-first-part s r m holds place = record { holds = holds; place = place ∙ ap (λ (x : ℕ). (s .ptr .0, x)) (sym (zero-add (s .ptr .1))) }
 
 -- a part from a to a + m
 pub middle-part : (s r : RefT (List ℕ)) (a m : ℕ) → now r ≡ take (a + m - a) (drop a (now s)) → r .ptr ≡ (s .ptr .0, a + s .ptr .1) → PartOf s a m r
@@ -40,43 +31,62 @@ middle-part s r a m holds place =
 pub inside : (l : Layout) (L b size : ℕ) → Sized l L size → b < blocks l → b * L + L ≤ size
 inside l L b size s below = omega (arith, s .whole, under L b (blocks l) below)
 
--- ---- views
+-- of the stripe and the spare, or of their lengths, the one that a number names
+abbrev pub named : {A : Type 0} → A → A → ℕ → A
+named stripe spare zero = stripe
+named stripe spare (suc _) = spare
 
-module _ (l : Layout) (st : Standing) (b : ℕ) (stripe spare r : RefT (List ℕ)) where
-  view-refused : (number : ℕ) → Fetches l st b (now stripe) (now spare) (now spare) (Refused number) → PartOf spare 0 0 r → Views l st b stripe spare r
-  view-refused number F empty = record { answer = said (Refused number); verdict = F .fetch .outcome .verdict; part = empty }
+pub named-spare : {A : Type 0} (x y : A) (n : ℕ) → (n ≡ 0 → ⊥) → named x y n ≡ y
+named-spare x y zero h = absurd (h refl)
+named-spare x y (suc n) h = refl
 
-  pub views-front : (f : ℕ) → FrontSays l st (Sized l (st .len) (length (now stripe))) f → (f ≡ 0 → ⊥) → PartOf spare 0 0 r → Views l st b stripe spare r
-  views-front f says n = view-refused f (fetches-front l st b (now stripe) (now spare) f says n)
+pub named-less : {x y m : ℕ} → x < m → y < m → (n : ℕ) → named x y n < m
+named-less h k zero = h
+named-less h k (suc n) = k
 
-  module _ (s : Sound l st (Sized l (st .len) (length (now stripe)))) where
-    pub views-9 : blocks l ≤ b → PartOf spare 0 0 r → Views l st b stripe spare r
-    views-9 h = view-refused 9 (fetches-9 l st b (now stripe) (now spare) s h)
+-- ---- the part in numbers
 
-    module _ (below : b < blocks l) where
-      pub views-13 : (length (now spare) ≡ st .len → ⊥) → PartOf spare 0 0 r → Views l st b stripe spare r
-      views-13 n = view-refused 13 (fetches-13 l st b (now stripe) (now spare) s below n)
+module _ (l : Layout) (st : Standing) (size room b : ℕ) where
+  pub placed-refused : (number : ℕ) → FetchIs l st b size room (refused (by number)) → Placed l st size room b (record { slice = 1; from = 0; len = 0 })
+  placed-refused number v = record { answer = refused (by number); verdict = v; part = refl }
 
-      module _ (fits : length (now spare) ≡ st .len) where
-        pub views-present : marked (st .lost) b ≡ false → PartOf stripe (b * st .len) (st .len) r → Views l st b stripe spare r
-        views-present e block =
-            record {
-              answer = done;
-              verdict = fetches-present l st b (now stripe) (now spare) s below fits e .fetch .outcome .verdict;
-              part = record { lost = λ h. in-and-out h e; present = λ h. block };
-            }
+  module _ (v : FetchIs l st b size room done) where
+    pub placed-present : marked (st .lost) b ≡ false → Placed l st size room b (record { slice = 0; from = b * st .len; len = st .len })
+    placed-present e = record { answer = done; verdict = v; part = rw e refl }
 
-        module _ (lost : marked (st .lost) b ≡ true) {a : Linear.Answer} (x : Coefficients l (st .lost) b a) where
-          pub views-lost : a .found ≡ true → now r ≡ now spare → r .ptr ≡ spare .ptr → Views l st b stripe spare r
-          views-lost found whole place =
-              record {
-                answer = done;
-                verdict = fetch-planned l st b (now stripe) (now spare) s below fits lost x found;
-                part = record {
-                  lost = λ h. first-part spare r (st .len) (whole ∙ sym (take-all (st .len) (now spare) (omega (arith, fits)))) place;
-                  present = λ h. in-and-out lost h;
-                };
-              }
+    pub placed-lost : marked (st .lost) b ≡ true → Placed l st size room b (record { slice = 1; from = 0; len = st .len })
+    placed-lost e = record { answer = done; verdict = v; part = rw e refl }
 
-          pub views-14 : a .found ≡ false → PartOf spare 0 0 r → Views l st b stripe spare r
-          views-14 e = view-refused 14 (fetches-14 l st b (now stripe) (now spare) s below fits lost x e)
+  abbrev Fits : Part → Type 0
+  Fits p = p .from + p .len ≤ named size room (p .slice)
+
+  -- it lies inside its slice
+  pub placed-inside : {p : Part} → Placed l st size room b p → Fits p
+  placed-inside P = rw (P .part) (at (P .answer) (P .verdict))
+    where
+      sized : FetchIs l st b size room done → Sized l (st .len) size
+      sized v = done-met (undone (by 7)) (done-met (undone (by 6)) (v .first) .1) .0
+
+      chosen : FetchIs l st b size room done → (t : Bool) → marked (st .lost) b ≡ t → Fits (partIn st b done)
+      chosen v true e = rw e (omega (arith, fetch-met v .1))
+      chosen v false e = rw e (inside l (st .len) b size (sized v) (fetch-met v .0))
+
+      at : (a : Calls.Answer) → FetchIs l st b size room a → Fits (partIn st b a)
+      at (refused _) v = omega arith
+      at done v = chosen v (marked (st .lost) b) refl
+
+-- ---- the part itself
+
+-- a slice cut there is the part that a view hands back
+pub placed-views : (l : Layout) (st : Standing) (b : ℕ) (stripe spare : RefT (List ℕ)) {p : Part} → Placed l st (length (now stripe)) (length (now spare)) b p
+    → (r : RefT (List ℕ)) → PartOf (named stripe spare (p .slice)) (p .from) (p .len) r → Views l st b stripe spare r
+placed-views l st b stripe spare P r h =
+    record {
+      answer = P .answer;
+      verdict = P .verdict;
+      part = at (P .answer) (subst (λ (p : Part). PartOf (named stripe spare (p .slice)) (p .from) (p .len) r) (P .part) h);
+    }
+  where
+    at : (a : Calls.Answer) → PartOf (named stripe spare (partIn st b a .slice)) (partIn st b a .from) (partIn st b a .len) r → HandedBack st b stripe spare a r
+    at (refused _) x = x
+    at done x = record { lost = λ e. rw e at x; present = λ e. rw e at x }

@@ -2,7 +2,7 @@
 -- layout's own matrix and order. A refusal alters nothing lent.
 use mathlib.Core.Path.{_≡_}
 use mathlib.Core.List.{List, [], _∷_}
-use mathlib.Core.Bool.{true, false}
+use mathlib.Core.Bool.{true, false, cond}
 use Prim.Native.Nat.{ℕ, _+_, _*_}
 use denote.Ref.{RefT, now}
 use lib.ListN.{length, take, drop}
@@ -17,6 +17,7 @@ use Rattle.plan.specs.declared.Answer.{Answer}
 use Rattle.plan.specs.Codes.{codeOf, InRange, front}
 use Rattle.plan.specs.Plans.{said}
 use Rattle.stripe.specs.declared.Stood.{Stood}
+use Rattle.stripe.specs.declared.Part.{Part}
 use Rattle.stripe.specs.declared.Rebuilding.{Rebuilding}
 use Rattle.stripe.specs.declared.Rebuilding.the-variants.{Whole, Denied, NoPlan}
 use Rattle.stripe.specs.declared.Rebuilt.{Rebuilt}
@@ -83,12 +84,24 @@ pub record Viewed (st : Standing) (b : ℕ) (stripe spare r : RefT (List ℕ)) :
   pub present : marked (st .lost) b ≡ false → PartOf stripe (b * st .len) (st .len) r
 
 -- "the empty part exactly where fetching would refuse": it stands at the front of the spare
-abbrev pub Part : Standing → ℕ → RefT (List ℕ) → RefT (List ℕ) → Calls.Answer → RefT (List ℕ) → Type 0
-Part st b stripe spare (refused _) r = PartOf spare 0 0 r
-Part st b stripe spare done r = Viewed st b stripe spare r
+abbrev pub HandedBack : Standing → ℕ → RefT (List ℕ) → RefT (List ℕ) → Calls.Answer → RefT (List ℕ) → Type 0
+HandedBack st b stripe spare (refused _) r = PartOf spare 0 0 r
+HandedBack st b stripe spare done r = Viewed st b stripe spare r
+
+-- the same part in numbers
+abbrev pub partIn : Standing → ℕ → Calls.Answer → Part
+partIn st b (refused _) = record { slice = 1; from = 0; len = 0 }
+partIn st b done =
+    cond (marked (st .lost) b) (record { slice = 1; from = 0; len = st .len }) (record { slice = 0; from = b * st .len; len = st .len })
+
+-- of a stripe of `size` bytes and a spare of `room` bytes; it asks what fetching asks
+pub record Placed (l : Layout) (st : Standing) (size room b : ℕ) (r : Part) : Type 0 where
+  pub answer : Calls.Answer
+  pub verdict : Verdict (front l st (Sized l (st .len) size)) (codeOf l (st .len)) (marked (st .lost)) (fetch b room) answer
+  pub part : r ≡ partIn st b answer
 
 -- viewing asks what fetching asks of the same stripe and spare
 pub record Views (l : Layout) (st : Standing) (b : ℕ) (stripe spare r : RefT (List ℕ)) : Type 0 where
   pub answer : Calls.Answer
   pub verdict : Verdict (front l st (Sized l (st .len) (length (now stripe)))) (codeOf l (st .len)) (marked (st .lost)) (fetch b (length (now spare))) answer
-  pub part : Part st b stripe spare answer r
+  pub part : HandedBack st b stripe spare answer r

@@ -7,7 +7,7 @@ ghost use lib.ListN.{length};
 ghost use Rattle.note.specs.Given.{Tells};
 ghost use Rattle.plan.specs.Front.{FrontSays};
 ghost use Rattle.stripe.specs.Front.{refusal, ShapeSays};
-ghost use Rattle.stripe.specs.Stripes.{Sized, Encodes, Loses, RepairsOne, RebuildsAll, Corrects, Fetches, Views};
+ghost use Rattle.stripe.specs.Stripes.{Sized, Encodes, Loses, RepairsOne, RebuildsAll, Corrects, Fetches, Placed, Views};
 use note::Layout;
 use plan::Answer;
 use plan::Standing;
@@ -29,6 +29,14 @@ pub enum Rebuilding {
 pub struct Rebuilt {
     pub standing: Standing,
     pub answer: Rebuilding,
+}
+
+// The part of the stripe or of the spare that holds a block: `slice` 0 is the stripe, 1 the spare; `len` bytes from `from` on.
+#[repr(C)]
+pub struct Part {
+    pub slice: u8,
+    pub from: usize,
+    pub len: usize,
 }
 
 // A refusal leaves the standing as it was.
@@ -261,30 +269,55 @@ pub fn fetch_by(l: Layout, st: Standing, stripe: &[u8], spare: &mut [u8], b: usi
     Answer::Done
 }
 
+// Where block b is read: from the spare where it is lost, in the stripe where it is not; no byte of the spare where fetching would refuse. `size` and `room` are the lengths of stripe and spare.
+pub fn part_by(l: Layout, st: Standing, size: usize, room: usize, b: usize) -> Part
+    ensures { λ r. ⌜ Placed l st size room b r ⌝ }
+{
+    let none = Part {
+        slice: 1,
+        from: 0,
+        len: 0,
+    };
+    let f = front(l, st, size);
+    if f != 0 {
+        return none;
+    }
+    let n = l.k + l.r;
+    if n <= b {
+        return none;
+    }
+    let len = st.len;
+    if len != room {
+        return none;
+    }
+    if !marks::holds(st.lost, b) {
+        let at = b * len;
+        return Part {
+            slice: 0,
+            from: at,
+            len: len,
+        };
+    }
+    let a = plan::coefficients(l, st.lost, b);
+    if a.found {
+        return Part {
+            slice: 1,
+            from: 0,
+            len: len,
+        };
+    }
+    none
+}
+
 // The part that holds block b: of the spare where b is lost, of the stripe where it is not. Empty where fetching would refuse.
 pub fn view_by<'a>(l: Layout, st: Standing, stripe: &'a [u8], spare: &'a [u8], b: usize) -> &'a [u8]
     ensures { λ r. ⌜ Views l st b (stripe .entry) (spare .entry) r ⌝ }
 {
-    let f = front(l, st, stripe.len());
-    if f != 0 {
-        return &spare[..0];
+    let p = part_by(l, st, stripe.len(), spare.len(), b);
+    let from = p.from;
+    let end = from + p.len;
+    if p.slice == 0 {
+        return &stripe[from..end];
     }
-    let n = l.k + l.r;
-    if n <= b {
-        return &spare[..0];
-    }
-    let len = st.len;
-    if len != spare.len() {
-        return &spare[..0];
-    }
-    if !marks::holds(st.lost, b) {
-        let at = b * len;
-        let end = at + len;
-        return &stripe[at..end];
-    }
-    let a = plan::coefficients(l, st.lost, b);
-    if a.found {
-        return &spare[..];
-    }
-    &spare[..0]
+    &spare[from..end]
 }

@@ -5,7 +5,7 @@ use borrow.Author.Needs.{needs}
 use Rattle.note.proofs.Facts.{given-proper}
 use Rattle.plan.proofs.Verdicts.{not-yes, not-no}
 use Rattle.plan.proofs.Fronts.{says-sound}
-use Rattle.stripe.proofs.Tops.{fetches-front, fetches-9, fetches-13, fetches-present, fetches-14, plan-sources, fetches-done}
+use Rattle.stripe.proofs.Tops.{plan-sources, fetch-front, fetch-9, fetch-13, fetch-present, fetch-14, fetch-planned, fetches-refused, fetches-present, fetches-done}
 use Rattle.stripe.proofs.fetch_by.Statement.{statement}
 use Rattle.stripe.proofs.fetch_by.Tie as tie
 
@@ -15,7 +15,8 @@ front-requires c κs = search needs
 returns : tie.Need-returns
 returns c =
     let start = c .before .before .before .before in
-    fetches-front (start .args .l) (start .args .st) (start .args .b) _ _ (c .before .front .result) (c .before .front .ensures) (c .if1 .taken)
+    fetches-refused (start .args .l) (start .args .st) (start .args .b) _ _ (c .before .front .result)
+    (fetch-front (start .args .l) (start .args .st) (start .args .b) _ _ (c .before .front .result) (c .before .front .ensures) (c .if1 .taken))
 
 add-n : tie.Need-add-n
 add-n c =
@@ -27,14 +28,14 @@ returns-2 c =
     let tested = c in
     let start = tested .before .before .before .before .before .before in
     let sound = says-sound (start .args .l) (start .args .st) (tested .before .before .before .front .result) (tested .before .before .before .front .ensures) (tested .before .before .if1 .left) in
-    fetches-9 (start .args .l) (start .args .st) (start .args .b) _ _ sound (tested .if2 .taken)
+    fetches-refused (start .args .l) (start .args .st) (start .args .b) _ _ 9 (fetch-9 (start .args .l) (start .args .st) (start .args .b) _ _ sound (tested .if2 .taken))
 
 returns-3 : tie.Need-returns-3
 returns-3 c =
     let tested = c .before in
     let start = tested .before .before .before .before .before .before in
     let sound = says-sound (start .args .l) (start .args .st) (tested .before .before .before .front .result) (tested .before .before .before .front .ensures) (tested .before .before .if1 .left) in
-    fetches-13 (start .args .l) (start .args .st) (start .args .b) _ _ sound (tested .if2 .left) (c .if3 .taken)
+    fetches-refused (start .args .l) (start .args .st) (start .args .b) _ _ 13 (fetch-13 (start .args .l) (start .args .st) (start .args .b) _ _ sound (tested .if2 .left) (c .if3 .taken))
 
 holds-requires : tie.Need-holds-requires
 holds-requires c κs =
@@ -48,8 +49,8 @@ returns-4 c =
     let tested = c .before .before .before in
     let start = tested .before .before .before .before .before .before in
     let sound = says-sound (start .args .l) (start .args .st) (tested .before .before .before .front .result) (tested .before .before .before .front .ensures) (tested .before .before .if1 .left) in
-    fetches-present (start .args .l) (start .args .st) (start .args .b) _ _ sound (tested .if2 .left) (c .before .before .if3 .left)
-    (sym (c .before .holds .ensures) ∙ not-no (c .before .holds .result) (c .if4 .taken))
+    let here = sym (c .before .holds .ensures) ∙ not-no (c .before .holds .result) (c .if4 .taken) in
+    fetches-present (start .args .l) (start .args .st) (start .args .b) _ _ (fetch-present (start .args .l) (start .args .st) (start .args .b) _ _ sound (tested .if2 .left) (c .before .before .if3 .left) here) here
 
 coefficients-requires : tie.Need-coefficients-requires
 coefficients-requires c κs =
@@ -64,9 +65,10 @@ returns-5 c =
     let tested = asked .before .before .before in
     let start = tested .before .before .before .before .before .before in
     let sound = says-sound (start .args .l) (start .args .st) (tested .before .before .before .front .result) (tested .before .before .before .front .ensures) (tested .before .before .if1 .left) in
-    fetches-14 (start .args .l) (start .args .st) (start .args .b) _ _ sound (tested .if2 .left) (asked .before .before .if3 .left)
+    fetches-refused (start .args .l) (start .args .st) (start .args .b) _ _ 14
+    (fetch-14 (start .args .l) (start .args .st) (start .args .b) _ _ sound (tested .if2 .left) (asked .before .before .if3 .left)
     (sym (asked .before .holds .ensures) ∙ not-yes (asked .before .holds .result) (asked .if4 .left))
-    (c .before .before .coefficients .ensures) (not-no _ (c .if5 .taken))
+    (c .before .before .coefficients .ensures) (not-no _ (c .if5 .taken)))
 
 slice-aggregate-gather : tie.Need-slice-aggregate-gather
 slice-aggregate-gather c = search needs
@@ -92,9 +94,11 @@ returns-6 c =
     let tested = asked .before .before .before in
     let start = tested .before .before .before .before .before .before in
     let sound = says-sound (start .args .l) (start .args .st) (tested .before .before .before .front .result) (tested .before .before .before .front .ensures) (tested .before .before .if1 .left) in
-    fetches-done (start .args .l) (start .args .st) (start .args .b) _ _ sound (tested .if2 .left) (asked .before .before .if3 .left)
-    (sym (asked .before .holds .ensures) ∙ not-yes (asked .before .holds .result) (asked .if4 .left))
-    (found .before .before .coefficients .ensures) (not-yes _ (found .if5 .left)) _ (c .before .before .gather .ensures)
+    let fits = asked .before .before .if3 .left in
+    let gone = sym (asked .before .holds .ensures) ∙ not-yes (asked .before .holds .result) (asked .if4 .left) in
+    let plan = found .before .before .coefficients .ensures in
+    let is = not-yes _ (found .if5 .left) in
+    fetches-done (start .args .l) (start .args .st) (start .args .b) _ _ (fetch-planned (start .args .l) (start .args .st) (start .args .b) _ _ sound (tested .if2 .left) fits gone plan is) (sound .given) fits gone plan is _ (c .before .before .gather .ensures)
 
 pub fetch-by-spec : {M : Type 1} → statement M
 fetch-by-spec =
