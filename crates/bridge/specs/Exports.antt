@@ -2,9 +2,9 @@
 -- rests on the definition of its call of the store, and says that call's answer: 0 where it is accepted, otherwise the number of its refusal.
 use mathlib.Core.Path.{_≡_}
 use mathlib.Core.List.{List}
-use mathlib.Core.Bool.{false}
 use Prim.Native.Nat.{ℕ}
-use lib.IntN.{pos}
+use denote.Ref.{RefT, now}
+use lib.ListN.{length}
 use lib.Ieee as Ieee
 use lib.Ieee.{Float, binary64}
 use Rattle.note.specs.declared.Layout.{Layout}
@@ -15,8 +15,10 @@ use Rattle.plan.specs.declared.Answer.{Answer}
 use Rattle.plan.specs.declared.Planned.{Planned}
 use Rattle.price.specs.declared.Limits.{Limits}
 use Rattle.price.specs.declared.Price as Sheet
+use Rattle.stripe.specs.declared.Part.{Part}
+use Rattle.stripe.specs.Stripes.{PartOf, Placed, sliceOf}
 use Rattle.store.specs.Answers.{spoken}
-use Rattle.store.specs.Store.{Read, Plan, Correct, Fetch, Price}
+use Rattle.store.specs.Store.{Read, Plan, Correct, Fetch, View, Price}
 use Rattle.bridge.specs.declared.NoteSaid.{NoteSaid}
 use Rattle.bridge.specs.declared.PlanSaid.{PlanSaid}
 use Rattle.bridge.specs.declared.PriceSaid.{PriceSaid}
@@ -66,6 +68,11 @@ pub record FetchSays (l : Layout) (st : Standing) (xs old : List ℕ) (b r : ℕ
   pub answer : Answer
   pub does : Fetch l st xs old b answer new
   pub said : r ≡ spoken answer .number
+
+-- a view: p is where the call's part stands, so whatever has those bytes there is that part
+pub record ViewSays (l : Layout) (st : Standing) (stripe spare : RefT (List ℕ)) (b : ℕ) (p : Part) : Type 0 where
+  pub placed : Placed l st (length (now stripe)) (length (now spare)) b p
+  pub does : (r : RefT (List ℕ)) → PartOf (sliceOf stripe spare (p .slice)) (p .from) (p .len) r → View l st stripe spare b r
 
 -- the price sheet
 pub record PriceSays (l : Layout) (limits : Limits) (r : PriceSaid) : Type 0 where

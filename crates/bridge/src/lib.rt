@@ -1,5 +1,5 @@
 // The calls of the store for C and Rust (include/store.h): numbers, slices and plain structs cross, and nothing else.
-ghost use Rattle.bridge.specs.Exports.{noteNumbers, planNumbers, priceNumbers, ReadSays, PlanSays, CorrectSays, FetchSays, PriceSays};
+ghost use Rattle.bridge.specs.Exports.{noteNumbers, planNumbers, priceNumbers, ReadSays, PlanSays, CorrectSays, FetchSays, ViewSays, PriceSays};
 ghost use Rattle.store.specs.Store.{Encode, Lose, Repair, Rebuild};
 ghost use mathlib.Core.Path.{_≡_};
 use note::Layout;
@@ -10,6 +10,7 @@ use plan::Standing;
 use price::Limits;
 use price::Price;
 use store::Said;
+use stripe::Part;
 
 // What reading a note says: 0 and the layout; or the refusal's number, the offset of the record at fault, and the blank layout.
 #[repr(C)]
@@ -149,6 +150,14 @@ pub extern "C" fn store_fetch(
     let a = store::fetch(l, st, stripe, spare, b);
     let s = store::say(a);
     s.number
+}
+
+// Where the part stands that holds block b: in the stripe, or in the spare. Empty exactly where fetching would refuse.
+#[no_mangle]
+pub extern "C" fn store_view(l: Layout, st: Standing, stripe: &[u8], spare: &[u8], b: usize) -> Part
+    ensures { λ r. ⌜ ViewSays l st (stripe .entry) (spare .entry) b r ⌝ }
+{
+    stripe::part_by(l, st, stripe.len(), spare.len(), b)
 }
 
 // What a layout costs, under two limits.

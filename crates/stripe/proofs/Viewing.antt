@@ -16,7 +16,7 @@ use Rattle.calls.proofs.Answers.{fetch-met}
 use Rattle.pieces.proofs.Blocks.{under}
 use Rattle.plan.specs.declared.Standing.{Standing}
 use Rattle.stripe.specs.declared.Part.{Part}
-use Rattle.stripe.specs.Stripes.{Sized, PartOf, HandedBack, partIn, Placed, Views}
+use Rattle.stripe.specs.Stripes.{Sized, PartOf, HandedBack, partIn, Placed, Views, sliceOf}
 use Rattle.stripe.proofs.Tops.{FetchIs}
 
 -- ---- parts
@@ -31,18 +31,13 @@ middle-part s r a m holds place =
 pub inside : (l : Layout) (L b size : ℕ) → Sized l L size → b < blocks l → b * L + L ≤ size
 inside l L b size s below = omega (arith, s .whole, under L b (blocks l) below)
 
--- of the stripe and the spare, or of their lengths, the one that a number names
-abbrev pub named : {A : Type 0} → A → A → ℕ → A
-named stripe spare zero = stripe
-named stripe spare (suc _) = spare
+pub slice-spare : {A : Type 0} (x y : A) (n : ℕ) → (n ≡ 0 → ⊥) → sliceOf x y n ≡ y
+slice-spare x y zero h = absurd (h refl)
+slice-spare x y (suc n) h = refl
 
-pub named-spare : {A : Type 0} (x y : A) (n : ℕ) → (n ≡ 0 → ⊥) → named x y n ≡ y
-named-spare x y zero h = absurd (h refl)
-named-spare x y (suc n) h = refl
-
-pub named-less : {x y m : ℕ} → x < m → y < m → (n : ℕ) → named x y n < m
-named-less h k zero = h
-named-less h k (suc n) = k
+pub slice-less : {x y m : ℕ} → x < m → y < m → (n : ℕ) → sliceOf x y n < m
+slice-less h k zero = h
+slice-less h k (suc n) = k
 
 -- ---- the part in numbers
 
@@ -58,7 +53,7 @@ module _ (l : Layout) (st : Standing) (size room b : ℕ) where
     placed-lost e = record { answer = done; verdict = v; part = rw e refl }
 
   abbrev Fits : Part → Type 0
-  Fits p = p .from + p .len ≤ named size room (p .slice)
+  Fits p = p .from + p .len ≤ sliceOf size room (p .slice)
 
   -- it lies inside its slice
   pub placed-inside : {p : Part} → Placed l st size room b p → Fits p
@@ -79,14 +74,14 @@ module _ (l : Layout) (st : Standing) (size room b : ℕ) where
 
 -- a slice cut there is the part that a view hands back
 pub placed-views : (l : Layout) (st : Standing) (b : ℕ) (stripe spare : RefT (List ℕ)) {p : Part} → Placed l st (length (now stripe)) (length (now spare)) b p
-    → (r : RefT (List ℕ)) → PartOf (named stripe spare (p .slice)) (p .from) (p .len) r → Views l st b stripe spare r
+    → (r : RefT (List ℕ)) → PartOf (sliceOf stripe spare (p .slice)) (p .from) (p .len) r → Views l st b stripe spare r
 placed-views l st b stripe spare P r h =
     record {
       answer = P .answer;
       verdict = P .verdict;
-      part = at (P .answer) (subst (λ (p : Part). PartOf (named stripe spare (p .slice)) (p .from) (p .len) r) (P .part) h);
+      part = at (P .answer) (subst (λ (p : Part). PartOf (sliceOf stripe spare (p .slice)) (p .from) (p .len) r) (P .part) h);
     }
   where
-    at : (a : Calls.Answer) → PartOf (named stripe spare (partIn st b a .slice)) (partIn st b a .from) (partIn st b a .len) r → HandedBack st b stripe spare a r
+    at : (a : Calls.Answer) → PartOf (sliceOf stripe spare (partIn st b a .slice)) (partIn st b a .from) (partIn st b a .len) r → HandedBack st b stripe spare a r
     at (refused _) x = x
     at done x = record { lost = λ e. rw e at x; present = λ e. rw e at x }

@@ -3,7 +3,7 @@
 use mathlib.Core.Path.{_≡_}
 use mathlib.Core.List.{List, [], _∷_}
 use mathlib.Core.Bool.{true, false, cond}
-use Prim.Native.Nat.{ℕ, _+_, _*_}
+use Prim.Native.Nat.{ℕ, zero, suc, _+_, _*_}
 use denote.Ref.{RefT, now}
 use lib.ListN.{length, take, drop}
 use Rattle.note.specs.declared.Layout.{Layout}
@@ -93,6 +93,11 @@ abbrev pub partIn : Standing → ℕ → Calls.Answer → Part
 partIn st b (refused _) = record { slice = 1; from = 0; len = 0 }
 partIn st b done =
     cond (marked (st .lost) b) (record { slice = 1; from = 0; len = st .len }) (record { slice = 0; from = b * st .len; len = st .len })
+
+-- of the stripe and the spare, or of their lengths, the one that such a number names
+abbrev pub sliceOf : {A : Type 0} → A → A → ℕ → A
+sliceOf stripe spare zero = stripe
+sliceOf stripe spare (suc _) = spare
 
 -- of a stripe of `size` bytes and a spare of `room` bytes; it asks what fetching asks
 pub record Placed (l : Layout) (st : Standing) (size room b : ℕ) (r : Part) : Type 0 where
