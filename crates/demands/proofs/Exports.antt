@@ -3,15 +3,19 @@
 use mathlib.Core.Path.{_≡_, sym, ap, _∙_}
 use mathlib.Core.List.{List}
 use Prim.Native.Nat.{ℕ}
+use denote.Ref.{RefT}
 use Rattle.note.specs.declared.Layout.{Layout}
+use Rattle.calls.proofs.Answers.{verdict-unique}
 use Rattle.plan.specs.declared.Standing.{Standing}
 use Rattle.plan.specs.declared.Answer.{Answer}
 use Rattle.price.specs.declared.Limits.{Limits}
+use Rattle.stripe.specs.declared.Part.{Part}
+use Rattle.stripe.specs.Stripes.{partIn}
 use Rattle.store.specs.Answers.{spoken}
 use Rattle.bridge.specs.declared.NoteSaid.{NoteSaid}
 use Rattle.bridge.specs.declared.PlanSaid.{PlanSaid}
 use Rattle.bridge.specs.declared.PriceSaid.{PriceSaid}
-use Rattle.bridge.specs.Exports.{noteNumbers, planNumbers, priceNumbers, ReadSays, PlanSays, CorrectSays, FetchSays, PriceSays}
+use Rattle.bridge.specs.Exports.{noteNumbers, planNumbers, priceNumbers, ReadSays, PlanSays, CorrectSays, FetchSays, ViewSays, PriceSays}
 use Rattle.demands.proofs.OneOutcome.{read-one, plan-one, correct-one, fetch-one, price-one}
 
 abbrev number : Answer → ℕ
@@ -34,3 +38,7 @@ module _ {l : Layout} {st : Standing} where
   pub fetch-says-one : {xs old new new₂ : List ℕ} {b r r₂ : ℕ} → FetchSays l st xs old b r new → FetchSays l st xs old b r₂ new₂
       → (r ≡ r₂) × (new ≡ new₂)
   fetch-says-one h k = let x = fetch-one (h .does) (k .does) in (h .said ∙ ap number (x .0) ∙ sym (k .said), x .1)
+
+  pub view-says-one : {stripe spare : RefT (List ℕ)} {b : ℕ} {p q : Part} → ViewSays l st stripe spare b p → ViewSays l st stripe spare b q → p ≡ q
+  view-says-one {b = b} h k =
+      h .placed .part ∙ ap (partIn st b) (verdict-unique (h .placed .verdict) (k .placed .verdict)) ∙ sym (k .placed .part)
