@@ -1,7 +1,9 @@
+pub mod Outcomes
 pub mod OneOutcome
 pub mod Rows
 pub mod Demand1
 pub mod Demand2
 pub mod Demand3
 pub mod Possible
+pub mod DepotStripe
 pub mod Worked
