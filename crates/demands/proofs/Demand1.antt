@@ -30,9 +30,11 @@ use Rattle.plan.specs.Listing.{blank}
 use Rattle.price.specs.declared.Limits.{Limits}
 use Rattle.price.specs.declared.Price as Sheet
 use Rattle.price.specs.Sheet as Sheets
-use Rattle.stripe.specs.declared.Rebuilding.{Rebuilding}
-use Rattle.stripe.specs.declared.Rebuilding.the-variants.{Whole, Denied, NoPlan}
-use Rattle.stripe.specs.Stripes.{Sized, stripeOf, told, PartOf, HandedBack, Viewed}
+use Rattle.repairs.specs.declared.Rebuilding.{Rebuilding}
+use Rattle.repairs.specs.declared.Rebuilding.the-variants.{Whole, Denied, NoPlan}
+use Rattle.shape.specs.Shapes.{Sized, stripeOf}
+use Rattle.stripe.specs.Stripes.{PartOf, HandedBack, Viewed}
+use Rattle.repairs.specs.Repairs.{told}
 use Rattle.stripe.proofs.Viewing.{inside}
 use Rattle.store.specs.declared.Said.{Said}
 use Rattle.store.specs.Answers.{spoken, named}

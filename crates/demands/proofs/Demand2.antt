@@ -36,18 +36,19 @@ use Rattle.plan.specs.Codes.{codeOf, InRange, front}
 use Rattle.plan.specs.Plans.{said, IsListed}
 use Rattle.plan.proofs.Codes.{code-proper}
 use Rattle.plan.proofs.Listings.{Listed, listOf-listed, entry-below, entry-coef, entry-positive, listed-sum}
-use Rattle.stripe.specs.declared.Stood.{Stood}
-use Rattle.stripe.specs.declared.Rebuilt.{Rebuilt}
-use Rattle.stripe.specs.declared.Rebuilding.{Rebuilding}
-use Rattle.stripe.specs.declared.Rebuilding.the-variants.{Whole, Denied, NoPlan}
-use Rattle.stripe.specs.Stripes.{Sized, stripeOf, told}
-use Rattle.stripe.proofs.Outcomes.{repairs-stale, rebuilds-stale, corrects-stale, fetches-stale}
+use Rattle.shape.specs.declared.Stood.{Stood}
+use Rattle.repairs.specs.declared.Rebuilt.{Rebuilt}
+use Rattle.repairs.specs.declared.Rebuilding.{Rebuilding}
+use Rattle.repairs.specs.declared.Rebuilding.the-variants.{Whole, Denied, NoPlan}
+use Rattle.shape.specs.Shapes.{Sized, stripeOf}
+use Rattle.repairs.specs.Repairs.{told}
 use Rattle.store.specs.declared.Said.{Said}
 use Rattle.store.specs.Answers.{spoken, named}
 use Rattle.store.specs.Store as Store
 use Rattle.store.specs.Store.{Encode, Lose, Repair, Rebuild, Correct, Fetch}
 use Rattle.demands.specs.Runs.{Between}
 use Rattle.demands.specs.Demand2.{SoundCall, Decided, GivesBack}
+use Rattle.demands.proofs.Outcomes.{repairs-stale, rebuilds-stale, corrects-stale, fetches-stale}
 
 -- ---- answers and their numbers
 

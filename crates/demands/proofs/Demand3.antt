@@ -30,14 +30,15 @@ use Rattle.plan.specs.Plans.{said}
 use Rattle.plan.specs.Front.{numbered}
 use Rattle.plan.proofs.Codes.{code-proper}
 use Rattle.plan.proofs.Fronts.{Sound}
-use Rattle.stripe.specs.declared.Rebuilding.{Rebuilding}
-use Rattle.stripe.specs.declared.Rebuilding.the-variants.{Whole, Denied, NoPlan}
-use Rattle.stripe.specs.Stripes.{Sized, stripeOf, told}
-use Rattle.stripe.proofs.Outcomes.{standing-one}
+use Rattle.repairs.specs.declared.Rebuilding.{Rebuilding}
+use Rattle.repairs.specs.declared.Rebuilding.the-variants.{Whole, Denied, NoPlan}
+use Rattle.shape.specs.Shapes.{Sized, stripeOf}
+use Rattle.repairs.specs.Repairs.{told}
 use Rattle.store.specs.declared.Said.{Said}
 use Rattle.store.specs.Answers.{spoken, named}
 use Rattle.store.specs.Store.{Encode, Rebuild}
 use Rattle.demands.specs.Runs.{Between, Runs, rest, loss, mend, amend, Small}
+use Rattle.demands.proofs.Outcomes.{standing-one}
 
 -- ---- a sound state
 

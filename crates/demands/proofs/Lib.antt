@@ -1,8 +1,10 @@
+pub mod Outcomes
+pub mod OneOutcome
+pub mod Exports
+pub mod Rows
 pub mod Demand1
 pub mod Demand2
 pub mod Demand3
-pub mod Exports
-pub mod OneOutcome
 pub mod Possible
-pub mod Rows
+pub mod DepotStripe
 pub mod Worked

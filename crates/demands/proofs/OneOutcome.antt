@@ -12,12 +12,12 @@ use Rattle.plan.proofs.Verdicts.{plans-unique}
 use Rattle.price.specs.declared.Limits.{Limits}
 use Rattle.price.specs.declared.Price as Sheet
 use Rattle.price.proofs.Prices.{priced-unique}
-use Rattle.stripe.specs.declared.Stood.{Stood}
-use Rattle.stripe.specs.declared.Rebuilt.{Rebuilt}
-use Rattle.stripe.proofs.Outcomes.{encodes-unique, loses-unique, repairs-unique, rebuilds-unique, corrects-unique, fetches-unique, views-unique}
+use Rattle.shape.specs.declared.Stood.{Stood}
+use Rattle.repairs.specs.declared.Rebuilt.{Rebuilt}
 use Rattle.store.specs.declared.Said.{Said}
 use Rattle.store.specs.Answers.{spoken, named}
 use Rattle.store.specs.Store.{Encode, Lose, Repair, Rebuild, Plan, Correct, Fetch, View, Price, Read}
+use Rattle.demands.proofs.Outcomes.{encodes-unique, loses-unique, repairs-unique, rebuilds-unique, corrects-unique, fetches-unique, views-unique}
 
 -- "Every answer is to be pinned down to the byte."
 module _ {l : Layout} {st : Standing} where

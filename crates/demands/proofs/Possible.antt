@@ -32,9 +32,10 @@ use Rattle.plan.specs.Front.{numbered, FrontSays}
 use Rattle.plan.specs.Plans.{said}
 use Rattle.plan.proofs.Codes.{code-proper}
 use Rattle.plan.proofs.Fronts.{Sound}
-use Rattle.stripe.specs.Stripes.{Sized, stripeOf}
+use Rattle.shape.specs.Shapes.{Sized, stripeOf}
 use Rattle.stripe.proofs.Answers.{loses-9, loses-11, loses-done}
-use Rattle.stripe.proofs.Tops.{repairs-9, repairs-10, corrects-9, corrects-11, corrects-12}
+use Rattle.stripe.proofs.Tops.{corrects-9, corrects-11, corrects-12}
+use Rattle.repairs.proofs.Repairing.{repairs-9, repairs-10}
 use Rattle.store.specs.declared.Said.{Said}
 use Rattle.store.specs.Answers.{spoken}
 use Rattle.store.specs.Store.{Encode, Lose, Repair, Rebuild, Correct}

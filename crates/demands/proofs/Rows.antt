@@ -27,7 +27,7 @@ use Rattle.plan.proofs.Codes.{code-proper}
 use Rattle.price.specs.declared.Limits.{Limits}
 use Rattle.price.specs.Sheet as Sheet
 use Rattle.price.specs.Sheet.{Numbers, alone}
-use Rattle.stripe.specs.Stripes.{Sized}
+use Rattle.shape.specs.Shapes.{Sized}
 use Rattle.demands.specs.Table.{Row, Gives, Answered, no-6, no-7, no-7-alone, no-8, no-9, no-10, no-11, no-12, no-13, no-14, no-14-any, no-15, no-16, encode-asks, lose-asks, plan-asks, repair-asks, rebuild-asks, correct-asks, fetch-asks, price-asks}
 
 -- ---- numbers

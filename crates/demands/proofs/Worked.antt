@@ -14,7 +14,7 @@ use Rattle.field.proofs.Worked.{products-hold}
 use Rattle.linear.proofs.Certificates.{coefs}
 use Rattle.note.specs.declared.Answer.the-variants.{Accepted}
 use Rattle.note.specs.declared.Reading.{Reading}
-use Rattle.note.specs.Note.{readNote, reading}
+use Rattle.note.specs.Note.{reading}
 use Rattle.note.specs.Note.Outcome.{layout}
 use Rattle.note.specs.Worked.{sample}
 use Rattle.marks.specs.Marks.{marked, withMark, noneFrom}
@@ -24,17 +24,17 @@ use Rattle.rows.proofs.Worked.{depot, depot-read, depot-given, depot-blocks, de
 use Rattle.calls.specs.Calls.{by}
 use Rattle.plan.specs.declared.Standing.{Standing}
 use Rattle.plan.specs.declared.Planned.{Planned}
-use Rattle.plan.specs.declared.Answer.the-variants.{Done, Refused}
-use Rattle.plan.specs.Codes.{codeOf, InRange}
+use Rattle.plan.specs.declared.Answer.the-variants.{Done}
+use Rattle.plan.specs.Codes.{InRange}
 use Rattle.plan.specs.Listing.{listOf}
 use Rattle.plan.specs.Plans.{Plans, refusal}
 use Rattle.plan.proofs.Verdicts.{plans-unique}
 use Rattle.plan.proofs.Worked as Plan-worked
 use Rattle.plan.proofs.Worked.{marksOf, lostSet, Case, Says, nothing, cases, Right, Each, end, also, cases-right}
-use Rattle.stripe.proofs.Worked.{depot-stripe}
 use Rattle.store.specs.declared.Said.{Said}
 use Rattle.store.specs.Answers.{spoken}
 use Rattle.store.specs.Store.{Read, Encode, Plan}
+use Rattle.demands.proofs.DepotStripe.{depot-stripe}
 
 -- ---- "27 x 128 = 1; 84 x 129 = 1; 161 x 130 = 1; 29 x 131 = 1; 2 x 128 = 29; 0 x 200 = 0"
 

@@ -11,7 +11,7 @@ use Rattle.plan.specs.declared.Answer.{Answer}
 use Rattle.plan.specs.Codes.{codeOf}
 use Rattle.plan.specs.Plans.{said}
 use Rattle.plan.specs.Front.{numbered}
-use Rattle.stripe.specs.Stripes.{stripeOf}
+use Rattle.shape.specs.Shapes.{stripeOf}
 use Rattle.store.specs.declared.Said.{Said}
 use Rattle.store.specs.Store.{Lose, Repair, Correct}
 

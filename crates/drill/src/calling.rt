@@ -3,7 +3,7 @@ use crate::fields;
 use crate::show;
 use note::Layout;
 use plan::Standing;
-use stripe::Stood;
+use shape::Stood;
 
 // The name of a call and its block.
 fn named(words: &[u8], b: usize) {
@@ -22,7 +22,7 @@ fn encode(l: Layout, st: Standing, stripe: &mut [u8]) -> Standing {
 }
 
 fn rebuild(l: Layout, st: Standing, stripe: &mut [u8]) -> Standing {
-    let r = stripe::rebuild_by(l, st, stripe);
+    let r = repairs::rebuild_by(l, st, stripe);
     let a = r.answer;
     show::text(b"rebuild");
     show::rebuilding(a);
@@ -31,7 +31,7 @@ fn rebuild(l: Layout, st: Standing, stripe: &mut [u8]) -> Standing {
 
 fn repair(l: Layout, st: Standing, stripe: &mut [u8], b: usize) -> Standing {
     named(b"repair ", b);
-    said(stripe::repair_by(l, st, stripe, b))
+    said(repairs::repair_by(l, st, stripe, b))
 }
 
 fn correct(l: Layout, st: Standing, stripe: &mut [u8], b: usize, command: &[u8]) -> Standing {

@@ -4,7 +4,7 @@ use crate::lines::index;
 use crate::show;
 use note::Layout;
 use plan::Standing;
-use stripe::Stood;
+use shape::Stood;
 
 fn said(r: Stood) -> Standing {
     let a = r.answer;
@@ -13,7 +13,7 @@ fn said(r: Stood) -> Standing {
 }
 
 fn rebuild(l: Layout, st: Standing, stripe: &mut [u8]) -> Standing {
-    let r = stripe::rebuild_by(l, st, stripe);
+    let r = repairs::rebuild_by(l, st, stripe);
     let a = r.answer;
     show::rebuilding(a);
     r.standing
@@ -35,7 +35,7 @@ fn answered(letter: u8, bytes: &[u8], l: Layout, st: Standing, stripe: &mut [u8]
     match letter {
         b'E' => said(stripe::encode_by(l, st, stripe)),
         b'O' => said(stripe::lose_by(l, st, b)),
-        b'R' => said(stripe::repair_by(l, st, stripe, b)),
+        b'R' => said(repairs::repair_by(l, st, stripe, b)),
         b'U' => rebuild(l, st, stripe),
         _ => correct(l, st, stripe, bytes),
     }

@@ -5,8 +5,8 @@ ghost use lib.ListN.{length};
 use crate::show;
 use note::Layout;
 use plan::Standing;
-use stripe::Rebuilding;
-use stripe::Rebuilt;
+use repairs::Rebuilding;
+use repairs::Rebuilt;
 
 // Counts by the number of blocks in a set, that of i blocks being digit i in base 1024. The largest there is is 495.
 struct Counts {
@@ -101,7 +101,7 @@ fn lost_and_rebuilt(l: Layout, n: usize, stripe: &mut [u8], set: u64) -> Rebuilt
 {
     let st = lose_all(l, stripe, set);
     let size = n * 2;
-    stripe::rebuild_by(l, st, &mut stripe[0..size])
+    repairs::rebuild_by(l, st, &mut stripe[0..size])
 }
 
 // What a set adds to the counts, `first` being the stripe as it was encoded.

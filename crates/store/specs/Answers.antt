@@ -1,10 +1,9 @@
 -- Believed: document 01, "When the store says no": what the answer of a call that changes the standing says in numbers: "0 for accepted", a refusal's
 -- number, and for a rebuild's 14 the block it names.
-use Prim.Native.Nat.{ℕ}
 use Rattle.plan.specs.declared.Answer.{Answer}
 use Rattle.plan.specs.declared.Answer.the-variants.{Done, Refused}
-use Rattle.stripe.specs.declared.Rebuilding.{Rebuilding}
-use Rattle.stripe.specs.declared.Rebuilding.the-variants.{Whole, Denied, NoPlan}
+use Rattle.repairs.specs.declared.Rebuilding.{Rebuilding}
+use Rattle.repairs.specs.declared.Rebuilding.the-variants.{Whole, Denied, NoPlan}
 use Rattle.store.specs.declared.Said.{Said}
 
 abbrev pub spoken : Answer → Said

@@ -14,8 +14,9 @@ use Rattle.plan.specs.Plans.{Plans}
 use Rattle.price.specs.declared.Limits.{Limits}
 use Rattle.price.specs.declared.Price as Sheet
 use Rattle.price.specs.Sheet.{Priced}
-use Rattle.stripe.specs.declared.Rebuilding.{Rebuilding}
-use Rattle.stripe.specs.Stripes.{Encodes, Loses, RepairsOne, RebuildsAll, Corrects, Fetches, Views}
+use Rattle.repairs.specs.declared.Rebuilding.{Rebuilding}
+use Rattle.stripe.specs.Stripes.{Encodes, Loses, Corrects, Fetches, Views}
+use Rattle.repairs.specs.Repairs.{RepairsOne, RebuildsAll}
 use Rattle.store.specs.declared.Said.{Said}
 use Rattle.store.specs.Answers.{spoken, named}
 

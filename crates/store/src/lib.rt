@@ -12,7 +12,7 @@ use plan::Answer;
 use plan::Planned;
 use plan::Standing;
 use price::Limits;
-use stripe::Rebuilding;
+use repairs::Rebuilding;
 
 // 0 where the call is accepted, otherwise the number of its refusal; for a rebuild's 14 the lowest lost block that has no plan, and 0 in every other case.
 #[repr(C)]
@@ -92,7 +92,7 @@ pub fn lose_core(l: Layout, st: Standing, b: usize) -> Left
 pub fn repair_core(l: Layout, st: Standing, stripe: &mut [u8], b: usize) -> Left
     ensures { λ r. ⌜ Repair l st (now (stripe .entry)) b (r .said) (r .standing) (now (stripe .exit)) ⌝ }
 {
-    let r = stripe::repair_by(l, st, stripe, b);
+    let r = repairs::repair_by(l, st, stripe, b);
     let s = r.standing;
     let a = r.answer;
     let said = say(a);
@@ -105,7 +105,7 @@ pub fn repair_core(l: Layout, st: Standing, stripe: &mut [u8], b: usize) -> Left
 pub fn rebuild_core(l: Layout, st: Standing, stripe: &mut [u8]) -> Left
     ensures { λ r. ⌜ Rebuild l st (now (stripe .entry)) (r .said) (r .standing) (now (stripe .exit)) ⌝ }
 {
-    let r = stripe::rebuild_by(l, st, stripe);
+    let r = repairs::rebuild_by(l, st, stripe);
     let s = r.standing;
     let a = r.answer;
     let said = name(a);

@@ -20,12 +20,13 @@ use Rattle.plan.specs.declared.Standing.{Standing}
 use Rattle.plan.specs.declared.Answer.the-variants.{Done}
 use Rattle.plan.specs.Codes.{codeOf, InRange, front}
 use Rattle.plan.specs.Front.{FrontSays}
-use Rattle.stripe.specs.Front.{refusal, ShapeSays}
+use Rattle.shape.specs.Front.{refusal, ShapeSays}
 use Rattle.pieces.specs.Pieces.{Encodable, EncodedList}
-use Rattle.stripe.specs.Stripes.{Sized, Encodes, Loses}
+use Rattle.shape.specs.Shapes.{Sized}
+use Rattle.stripe.specs.Stripes.{Encodes, Loses}
 use Rattle.pieces.proofs.Effects.{Renders, encoded}
 use Rattle.plan.proofs.Fronts.{front-refused, front-passed}
-use Rattle.stripe.proofs.Fronts.{shape-given, shape-sized, shape-refused}
+use Rattle.shape.proofs.Fronts.{shape-given, shape-sized, shape-refused}
 
 -- ---- the layout's matrix
 

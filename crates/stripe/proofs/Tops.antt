@@ -1,5 +1,5 @@
--- Proved: which facts make which answer of a repair, a fetch and a correction, and that what was done then is what `calls` asks.
-use mathlib.Core.Path.{_≡_, refl, sym, ap, _∙_}
+-- Proved: which facts make which answer of a fetch and a correction, and that what was done then is what `calls` asks.
+use mathlib.Core.Path.{_≡_, refl, sym, _∙_}
 use mathlib.Core.Bool.{true, false}
 use mathlib.Core.List.{List}
 use mathlib.Core.Logic.{inl, inr}
@@ -7,111 +7,35 @@ use Prim.Native.Nat.{ℕ, _+_, _*_, _<_, _≤_}
 use native.Mathlib.Omega.{arith}
 use lib.ListN.{length}
 use Rattle.linear.specs.declared.Answer as Linear
-use Rattle.linear.specs.Solved.{vec}
 use Rattle.linear.proofs.Sets.{in-and-out}
 use Rattle.note.specs.declared.Layout.{Layout}
 use Rattle.note.specs.Given.{Given}
 use Rattle.note.proofs.Facts.{given-proper}
-use Rattle.marks.specs.Marks.{marked, withoutMark, remove}
-use Rattle.marks.proofs.Bits.{marked-without, remove-same, remove-other}
+use Rattle.marks.specs.Marks.{marked}
 use Rattle.rows.specs.Rows.{blocks}
 use Rattle.rows.specs.Answers.{Matrix}
-use Rattle.calls.specs.Code.{HasPlan}
 use Rattle.calls.specs.Calls as Calls
-use Rattle.calls.specs.Calls.{stripe, repair, fetch, correct, by, done, refused, Verdict, Repaired}
-use Rattle.calls.proofs.Plans.{has-plan-iff}
+use Rattle.calls.specs.Calls.{fetch, correct, by, done, refused, Verdict}
 use Rattle.plan.specs.declared.Standing.{Standing}
 use Rattle.plan.specs.declared.Answer.the-variants.{Done, Refused}
 use Rattle.plan.specs.Codes.{codeOf, front}
 use Rattle.plan.specs.Plans.{said}
 use Rattle.plan.specs.Inner.{Coefficients}
-use Rattle.plan.proofs.Codes.{code-proper}
 use Rattle.plan.specs.Front.{FrontSays}
-use Rattle.stripe.specs.Front.{refusal}
-use Rattle.pieces.specs.Pieces.{Sources, Gathered, Others, Made, Correctable, CorrectedList}
-use Rattle.stripe.specs.Stripes.{Sized, RepairsOne, Corrects, Fetches}
+use Rattle.pieces.specs.Pieces.{Sources, Gathered, Correctable, CorrectedList}
+use Rattle.shape.specs.Shapes.{Sized}
+use Rattle.stripe.specs.Stripes.{Corrects, Fetches}
 use Rattle.plan.proofs.Fronts.{Sound, front-refused}
 use Rattle.pieces.proofs.Combining.{sources}
-use Rattle.pieces.proofs.Effects.{Planned, corrected, by-plan, repaired, plan-others}
+use Rattle.pieces.proofs.Effects.{corrected, by-plan}
+use Rattle.shape.proofs.Plans.{planned, has-plan}
 use Rattle.stripe.proofs.Answers.{layout-renders}
 
--- ---- plans
-
-module _ (l : Layout) (given : Given l) (L lost b : ℕ) {a : Linear.Answer} (x : Coefficients l lost b a) where
-  -- coefficients that are found are a plan, of blocks of any length
-  pub planned : a .found ≡ true → Planned (codeOf l L) (marked lost) b (a .coef)
-  planned e = record { plan = x .plan e; long = omega (arith, given-proper l given .n, x .long); past = λ s h k. x .past s h }
-
-  -- and a lost block for which they are found has one
-  pub has-plan : b < blocks l → a .found ≡ true → HasPlan (codeOf l L) (marked lost) b
-  has-plan below e = has-plan-iff (codeOf l L) (code-proper l given L) (marked lost) b below .1 (vec (a .coef), x .plan e)
-
-  -- it asks for blocks of the stripe
-  pub plan-sources : (xs : List ℕ) → length xs ≡ blocks l * L → Sources xs (a .coef) L
-  plan-sources xs w = sources (blocks l) (omega (arith, x .long)) (λ i h k. x .past i h) (omega (arith, w))
-
-  module _ (found : a .found ≡ true) (xs : List ℕ) where
-    -- a lost block of a whole stripe can be made by it
-    pub mendable : b < blocks l → marked lost b ≡ true → L ≤ 1024 → length xs ≡ blocks l * L → Others xs (a .coef) L b
-    mendable below gone most whole =
-        plan-others (codeOf l L) (code-proper l given L) (marked lost) below gone (planned found) (omega (arith, x .long)) most whole
-
-    -- and is then repaired, its mark being cleared
-    pub mended : (ys : List ℕ) (m : ℕ) → m ≡ withoutMark lost b → Made (a .coef) L b xs ys
-        → Repaired (codeOf l L) (marked lost) (stripe L (marked lost) xs) b (stripe L (marked m) ys)
-    mended ys m q M =
-        repaired (codeOf l L) (marked lost) refl (planned found) (marked m)
-        (gone b ∙ remove-same b (marked lost)) (λ i n. gone i ∙ remove-other b (marked lost) i n) M
-      where
-        gone : (i : ℕ) → marked m i ≡ remove b (marked lost) i
-        gone i = ap (λ (y : ℕ). marked y i) q ∙ marked-without lost b i
-
--- ---- repairs
-
-module _ (l : Layout) (st : Standing) (b : ℕ) (xs : List ℕ) where
-  repair-refused : (number : ℕ) → Verdict (front l st (Sized l (st .len) (length xs))) (codeOf l (st .len)) (marked (st .lost)) (repair b) (said (Refused number))
-      → RepairsOne l st b xs xs (refusal st number)
-  repair-refused number v = record { outcome = record { verdict = v; effect = refl }; len = refl; long = refl }
-
-  pub repairs-front : (f : ℕ) → FrontSays l st (Sized l (st .len) (length xs)) f → (f ≡ 0 → ⊥) → RepairsOne l st b xs xs (refusal st f)
-  repairs-front f says n = repair-refused f (front-refused says n (codeOf l (st .len)) (marked (st .lost)) (repair b))
-
-  module _ (s : Sound l st (Sized l (st .len) (length xs))) where
-    pub repairs-9 : blocks l ≤ b → RepairsOne l st b xs xs (refusal st 9)
-    repairs-9 h =
-        repair-refused 9 (record { first = inr (s .given, inr (s .size, inr (s .unmarked, inl (λ k. omega arith, refl)))) })
-
-    module _ (below : b < blocks l) where
-      pub repairs-10 : marked (st .lost) b ≡ false → RepairsOne l st b xs xs (refusal st 10)
-      repairs-10 e =
-          repair-refused 10
-          (record { first = inr (s .given, inr (s .size, inr (s .unmarked, inr (below, inl (λ h. in-and-out h e, refl))))) })
-
-      module _ (lost : marked (st .lost) b ≡ true) {a : Linear.Answer} (x : Coefficients l (st .lost) b a) where
-        pub repairs-14 : a .found ≡ false → RepairsOne l st b xs xs (refusal st 14)
-        repairs-14 e =
-            repair-refused 14
-            (record { first = inr (s .given, inr (s .size, inr (s .unmarked, inr (below, inr (lost, inl (x .none e, refl)))))) })
-
-        module _ (found : a .found ≡ true) where
-          pub repair-others : Others xs (a .coef) (st .len) b
-          repair-others = mendable l (s .given) (st .len) (st .lost) b x found xs below lost (s .size .range .most) (s .size .whole)
-
-          pub repairs-done : (ys : List ℕ) (m : ℕ) → m ≡ withoutMark (st .lost) b → Made (a .coef) (st .len) b xs ys
-              → RepairsOne l st b xs ys (record { standing = record { len = st .len; lost = m }; answer = Done })
-          repairs-done ys m q M =
-              record {
-                outcome = record {
-                  verdict = record {
-                    first = inr (s .given, inr (s .size, inr (s .unmarked, inr (below, inr (lost, inr (has-plan l (s .given) (st .len) (st .lost) b x below found, refl))))));
-                  };
-                  effect = mended l (s .given) (st .len) (st .lost) b x found xs ys m q M;
-                };
-                len = refl;
-                long = M .long;
-              }
-
 -- ---- fetches
+
+-- a plan asks for blocks of the stripe
+pub plan-sources : (l : Layout) (L lost b : ℕ) {a : Linear.Answer} → Coefficients l lost b a → (xs : List ℕ) → length xs ≡ blocks l * L → Sources xs (a .coef) L
+plan-sources l L lost b x xs w = sources (blocks l) (omega (arith, x .long)) (λ i h k. x .past i h) (omega (arith, w))
 
 -- the answer to a fetch, by numbers: `size` bytes of stripe, `room` bytes of spare
 module _ (l : Layout) (st : Standing) (b size room : ℕ) where

@@ -16,7 +16,8 @@ use Rattle.calls.proofs.Answers.{fetch-met}
 use Rattle.pieces.proofs.Blocks.{under}
 use Rattle.plan.specs.declared.Standing.{Standing}
 use Rattle.stripe.specs.declared.Part.{Part}
-use Rattle.stripe.specs.Stripes.{Sized, PartOf, HandedBack, partIn, Placed, Views, sliceOf}
+use Rattle.shape.specs.Shapes.{Sized}
+use Rattle.stripe.specs.Stripes.{PartOf, HandedBack, partIn, Placed, Views, sliceOf}
 use Rattle.stripe.proofs.Tops.{FetchIs}
 
 -- ---- parts

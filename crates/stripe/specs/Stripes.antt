@@ -1,5 +1,5 @@
--- Believed: document 01, "Repairs, corrections, reading": what each call on a stripe answers and leaves, through the definitions of `calls` at the
--- layout's own matrix and order. A refusal alters nothing lent.
+-- Believed: document 01, "Repairs, corrections, reading": what an encoding, a loss, a correction, a fetch and a view answer and leave, through the
+-- definitions of `calls` at the layout's own matrix and order. A refusal alters nothing lent.
 use mathlib.Core.Path.{_≡_}
 use mathlib.Core.List.{List, [], _∷_}
 use mathlib.Core.Bool.{true, false, cond}
@@ -9,27 +9,15 @@ use lib.ListN.{length, take, drop}
 use Rattle.note.specs.declared.Layout.{Layout}
 use Rattle.note.specs.Given.{Given}
 use Rattle.marks.specs.Marks.{marked}
-use Rattle.rows.specs.Rows.{blocks}
 use Rattle.calls.specs.Calls as Calls
-use Rattle.calls.specs.Calls.{Stripe, stripe, Need, _unless_, by, naming, done, refused, encode, lose, repair, rebuild, correct, fetch, Verdict, Outcome, Fetch}
+use Rattle.calls.specs.Calls.{_unless_, by, done, refused, encode, lose, correct, fetch, Verdict, Outcome, Fetch}
 use Rattle.plan.specs.declared.Standing.{Standing}
 use Rattle.plan.specs.declared.Answer.{Answer}
 use Rattle.plan.specs.Codes.{codeOf, InRange, front}
 use Rattle.plan.specs.Plans.{said}
-use Rattle.stripe.specs.declared.Stood.{Stood}
+use Rattle.shape.specs.declared.Stood.{Stood}
+use Rattle.shape.specs.Shapes.{Sized, stripeOf}
 use Rattle.stripe.specs.declared.Part.{Part}
-use Rattle.stripe.specs.declared.Rebuilding.{Rebuilding}
-use Rattle.stripe.specs.declared.Rebuilding.the-variants.{Whole, Denied, NoPlan}
-use Rattle.stripe.specs.declared.Rebuilt.{Rebuilt}
-
--- 7: "L outside its range, or stripe not n x L bytes"
-pub record Sized (l : Layout) (L size : ℕ) : Type 0 where
-  pub range : InRange L
-  pub whole : size ≡ blocks l * L
-
--- a lent stripe with its standing
-abbrev pub stripeOf : Standing → List ℕ → Stripe
-stripeOf st xs = stripe (st .len) (marked (st .lost)) xs
 
 -- encoding asks 6 and 7; "Encoding ignores old marks and never gives 8"
 pub record Encodes (l : Layout) (st : Standing) (xs ys : List ℕ) (r : Stood) : Type 0 where
@@ -43,26 +31,6 @@ pub record Loses (l : Layout) (st : Standing) (b : ℕ) (r : Stood) : Type 0 whe
   pub outcome : (xs : List ℕ) → Outcome (front l st (InRange (st .len))) (codeOf l (st .len)) (stripeOf st xs) (lose b)
       (said (r .answer)) (stripeOf (r .standing) xs)
   pub len : r .standing .len ≡ st .len
-
--- a repair asks 6, 7, 8, then 9, 10 and 14
-pub record RepairsOne (l : Layout) (st : Standing) (b : ℕ) (xs ys : List ℕ) (r : Stood) : Type 0 where
-  pub outcome : Outcome (front l st (Sized l (st .len) (length xs))) (codeOf l (st .len)) (stripeOf st xs) (repair b)
-      (said (r .answer)) (stripeOf (r .standing) ys)
-  pub len : r .standing .len ≡ st .len
-  pub long : length ys ≡ length xs
-
--- document 01's number for each case of a rebuild's answer: "for a rebuild's 14 the block named above"
-abbrev pub told : Rebuilding → Calls.Answer
-told Whole = done
-told (Denied number) = refused (by number)
-told (NoPlan b) = refused (naming 14 b)
-
--- a rebuild asks 6, 7, 8, then 14 of every lost block, in rising order
-pub record RebuildsAll (l : Layout) (st : Standing) (xs ys : List ℕ) (r : Rebuilt) : Type 0 where
-  pub outcome : Outcome (front l st (Sized l (st .len) (length xs))) (codeOf l (st .len)) (stripeOf st xs) rebuild
-      (told (r .answer)) (stripeOf (r .standing) ys)
-  pub len : r .standing .len ≡ st .len
-  pub long : length ys ≡ length xs
 
 -- a correction asks 6, 7, 8, then 9 (not below k), 11 and 12
 pub record Corrects (l : Layout) (st : Standing) (i off : ℕ) (d xs ys : List ℕ) (r : Answer) : Type 0 where

@@ -1,35 +1,11 @@
-// The calls on a stripe, with its standing by value. A stripe holds its blocks one after another: block b from b * len on.
-mod turns;
-
-ghost use mathlib.Core.Path.{_≡_};
+// The calls on a stripe but those that repair it, with its standing by value. A stripe holds its blocks one after another: block b from b * len on.
 ghost use Prim.Native.Nat.{_+_, _≤_};
-ghost use lib.ListN.{length};
 ghost use Rattle.note.specs.Given.{Tells};
-ghost use Rattle.plan.specs.Front.{FrontSays};
-ghost use Rattle.stripe.specs.Front.{refusal, ShapeSays};
-ghost use Rattle.stripe.specs.Stripes.{Sized, Encodes, Loses, RepairsOne, RebuildsAll, Corrects, Fetches, Placed, Views};
+ghost use Rattle.stripe.specs.Stripes.{Encodes, Loses, Corrects, Fetches, Placed, Views};
 use note::Layout;
 use plan::Answer;
 use plan::Standing;
-
-// The standing after a call, and the call's answer.
-pub struct Stood {
-    pub standing: Standing,
-    pub answer: Answer,
-}
-
-// A rebuild is accepted, refused by its number, or refused with 14, naming the lowest lost block that has no plan.
-pub enum Rebuilding {
-    Whole,
-    Denied(u8),
-    NoPlan(usize),
-}
-
-// The standing after a rebuild, and its answer.
-pub struct Rebuilt {
-    pub standing: Standing,
-    pub answer: Rebuilding,
-}
+use shape::Stood;
 
 // The part of the stripe or of the spare that holds a block: `slice` 0 is the stripe, 1 the spare; `len` bytes from `from` on.
 #[repr(C)]
@@ -39,59 +15,14 @@ pub struct Part {
     pub len: usize,
 }
 
-// A refusal leaves the standing as it was.
-fn refuse(st: Standing, number: u8) -> Stood
-    ensures { λ r. ⌜ r ≡ refusal st number ⌝ }
-{
-    Stood {
-        standing: st,
-        answer: Answer::Refused(number),
-    }
-}
-
-// 6 or 7 where it applies, in this order; otherwise 0. `size` is the length of the stripe.
-fn shape(l: Layout, len: usize, size: usize) -> u8
-    ensures { λ r. ⌜ ShapeSays l (Sized l len size) r ⌝ }
-{
-    if !note::known(l) {
-        return 6;
-    }
-    if len < 1 {
-        return 7;
-    }
-    if 1024 < len {
-        return 7;
-    }
-    let n = l.k + l.r;
-    if size != n * len {
-        return 7;
-    }
-    0
-}
-
-// 6, 7 or 8 where it applies, in this order; otherwise 0.
-fn front(l: Layout, st: Standing, size: usize) -> u8
-    ensures { λ r. ⌜ FrontSays l st (Sized l (st .len) size) r ⌝ }
-{
-    let f = shape(l, st.len, size);
-    if f != 0 {
-        return f;
-    }
-    let n = l.k + l.r;
-    if !marks::none_from(st.lost, n) {
-        return 8;
-    }
-    0
-}
-
 // Writes every redundant block from the data as lent, and marks nothing lost.
 pub fn encode_by(l: Layout, st: Standing, stripe: &mut [u8]) -> Stood
     ensures { λ r. ⌜ Encodes l st (now (stripe .entry)) (now (stripe .exit)) r ⌝ }
 {
     let len = st.len;
-    let f = shape(l, len, stripe.len());
+    let f = shape::shape(l, len, stripe.len());
     if f != 0 {
-        return refuse(st, f);
+        return shape::refuse(st, f);
     }
     let n = l.k + l.r;
     let mut matrix = [0u8; 1536];
@@ -110,15 +41,15 @@ pub fn lose_by(l: Layout, st: Standing, b: usize) -> Stood
 {
     let f = plan::front(l, st);
     if f != 0 {
-        return refuse(st, f);
+        return shape::refuse(st, f);
     }
     let n = l.k + l.r;
     if n <= b {
-        return refuse(st, 9);
+        return shape::refuse(st, 9);
     }
     let lost = st.lost;
     if marks::holds(lost, b) {
-        return refuse(st, 11);
+        return shape::refuse(st, 11);
     }
     let m = marks::with(lost, b);
     let marked = Standing {
@@ -128,69 +59,6 @@ pub fn lose_by(l: Layout, st: Standing, b: usize) -> Stood
     Stood {
         standing: marked,
         answer: Answer::Done,
-    }
-}
-
-// Writes lost block b by its plan, and clears its mark.
-pub fn repair_by(l: Layout, st: Standing, stripe: &mut [u8], b: usize) -> Stood
-    ensures { λ r. ⌜ RepairsOne l st b (now (stripe .entry)) (now (stripe .exit)) r ⌝ }
-{
-    let f = front(l, st, stripe.len());
-    if f != 0 {
-        return refuse(st, f);
-    }
-    let n = l.k + l.r;
-    if n <= b {
-        return refuse(st, 9);
-    }
-    let lost = st.lost;
-    if !marks::holds(lost, b) {
-        return refuse(st, 10);
-    }
-    let a = plan::coefficients(l, lost, b);
-    if !a.found {
-        return refuse(st, 14);
-    }
-    let len = st.len;
-    let coef = a.coef;
-    pieces::make(stripe, &coef, len, b);
-    let m = marks::without(lost, b);
-    let mended = Standing { len: len, lost: m };
-    Stood {
-        standing: mended,
-        answer: Answer::Done,
-    }
-}
-
-// Repairs every lost block in rising order, once each is known to have a plan.
-pub fn rebuild_by(l: Layout, st: Standing, stripe: &mut [u8]) -> Rebuilt
-    ensures { λ r. ⌜ RebuildsAll l st (now (stripe .entry)) (now (stripe .exit)) r ⌝ }
-{
-    let f = front(l, st, stripe.len());
-    if f != 0 {
-        return Rebuilt {
-            standing: st,
-            answer: Rebuilding::Denied(f),
-        };
-    }
-    let n = l.k + l.r;
-    let lost = st.lost;
-    let w = turns::lowest(l, lost, n);
-    if w < n {
-        return Rebuilt {
-            standing: st,
-            answer: Rebuilding::NoPlan(w),
-        };
-    }
-    let len = st.len;
-    let left = turns::restore(l, lost, stripe, len, n);
-    let whole = Standing {
-        len: len,
-        lost: left,
-    };
-    Rebuilt {
-        standing: whole,
-        answer: Rebuilding::Whole,
     }
 }
 
@@ -218,7 +86,7 @@ pub fn correct_by(
 ) -> Answer
     ensures { λ r. ⌜ Corrects l st i off (now (diff .entry)) (now (stripe .entry)) (now (stripe .exit)) r ⌝ }
 {
-    let f = front(l, st, stripe.len());
+    let f = shape::front(l, st, stripe.len());
     if f != 0 {
         return Answer::Refused(f);
     }
@@ -244,7 +112,7 @@ pub fn correct_by(
 pub fn fetch_by(l: Layout, st: Standing, stripe: &[u8], spare: &mut [u8], b: usize) -> Answer
     ensures { λ r. ⌜ Fetches l st b (now (stripe .entry)) (now (spare .entry)) (now (spare .exit)) r ⌝ }
 {
-    let f = front(l, st, stripe.len());
+    let f = shape::front(l, st, stripe.len());
     if f != 0 {
         return Answer::Refused(f);
     }
@@ -278,7 +146,7 @@ pub fn part_by(l: Layout, st: Standing, size: usize, room: usize, b: usize) -> P
         from: 0,
         len: 0,
     };
-    let f = front(l, st, size);
+    let f = shape::front(l, st, size);
     if f != 0 {
         return none;
     }

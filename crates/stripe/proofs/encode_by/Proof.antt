@@ -3,7 +3,7 @@ use native.Mathlib.Omega.{arith}
 use borrow.Author.Needs.{needs}
 use Rattle.note.specs.Given.{Given}
 use Rattle.note.proofs.Facts.{given-proper}
-use Rattle.stripe.proofs.Fronts.{shape-given}
+use Rattle.shape.proofs.Fronts.{shape-given}
 use Rattle.stripe.proofs.Answers.{encodes-shape, encodable, encodes-done}
 use Rattle.stripe.proofs.encode_by.Statement.{statement}
 use Rattle.stripe.proofs.encode_by.Tie as tie

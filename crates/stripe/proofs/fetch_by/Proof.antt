@@ -80,7 +80,7 @@ gather-requires c κs =
     let tested = asked .before .before .before in
     let start = tested .before .before .before .before .before .before in
     let sound = says-sound (start .args .l) (start .args .st) (tested .before .before .before .front .result) (tested .before .before .before .front .ensures) (tested .before .before .if1 .left) in (
-      plan-sources (start .args .l) (sound .given) (start .args .st .len) (start .args .st .lost) (start .args .b) (found .before .before .coefficients .ensures) _ (sound .size .whole),
+      plan-sources (start .args .l) (start .args .st .len) (start .args .st .lost) (start .args .b) (found .before .before .coefficients .ensures) _ (sound .size .whole),
       (asked .before .before .if3 .left, sound .size .range .most),
     )
 

@@ -14,7 +14,7 @@ use Rattle.calls.proofs.Needs.{undone, done-met}
 use Rattle.plan.specs.declared.Standing.{Standing}
 use Rattle.plan.specs.Front.{FrontSays}
 use Rattle.plan.proofs.Fronts.{first-front, done-first, refused-first}
-use Rattle.stripe.specs.Front.{ShapeSays}
+use Rattle.shape.specs.Front.{ShapeSays}
 
 module _ {l : Layout} {P : Type 0} where
   pub shape-6 : (Given l → ⊥) → ShapeSays l P 6

@@ -3,7 +3,7 @@ ghost use mathlib.Core.Path.{_≡_};
 ghost use Prim.Native.Nat.{_<_};
 ghost use Rattle.note.specs.Given.{Given};
 ghost use Rattle.rows.specs.Rows.{blocks};
-ghost use Rattle.stripe.specs.Turns.{Lacks, LowestIs, Due, Turned, Ready, Restored};
+ghost use Rattle.repairs.specs.Turns.{Lacks, LowestIs, Due, Turned, Ready, Restored};
 use note::Layout;
 
 // Whether block b is lost and has no plan.

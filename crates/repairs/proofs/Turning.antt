@@ -1,10 +1,10 @@
 -- Proved: judging the lost blocks one by one finds the lowest that has no plan; where every one has, each has one again in its turn; and what a rebuild
 -- answers and leaves is what `calls` asks.
-use mathlib.Core.Path.{_≡_, refl, sym, ap, _∙_}
+use mathlib.Core.Path.{_≡_, refl, sym, _∙_}
 use mathlib.Core.Bool.{Bool, true, false, not}
 use mathlib.Core.List.{List}
-use mathlib.Core.Logic.{inl, inr}
-use Prim.Native.Nat.{ℕ, suc, _+_, _*_, _<_, _≤_}
+use mathlib.Core.Logic.{inr}
+use Prim.Native.Nat.{ℕ, suc, _+_, _<_, _≤_}
 use native.Mathlib.Numerals.{add-one}
 use native.Mathlib.Omega.{arith}
 use native.Mathlib.Decide.{ℕ-discrete}
@@ -15,23 +15,23 @@ use Rattle.note.specs.declared.Layout.{Layout}
 use Rattle.note.specs.Given.{Given}
 use Rattle.marks.specs.Marks.{marked, withoutMark}
 use Rattle.rows.specs.Rows.{blocks}
-use Rattle.calls.specs.Code.{Code, HasPlan}
-use Rattle.calls.specs.Calls as Calls
-use Rattle.calls.specs.Calls.{stripe, rebuild, done, refused, naming, by, Verdict, Repaired, Repairs, start, pass, next}
+use Rattle.calls.specs.Calls.{stripe, rebuild, Repairs, start, pass, next}
 use Rattle.calls.proofs.Answers.{Lowest, repair-met, rebuild-done, rebuild-named}
 use Rattle.calls.proofs.Rebuilds.{repairs-above, repairs-accepted}
 use Rattle.plan.specs.declared.Standing.{Standing}
-use Rattle.plan.specs.Codes.{codeOf, front}
+use Rattle.plan.specs.Codes.{codeOf}
 use Rattle.plan.specs.Inner.{Coefficients}
 use Rattle.plan.proofs.Codes.{code-proper}
 use Rattle.plan.proofs.Verdicts.{not-yes, not-no}
 use Rattle.pieces.specs.Pieces.{Others, Made}
-use Rattle.stripe.specs.declared.Rebuilding.the-variants.{Whole, Denied, NoPlan}
+use Rattle.repairs.specs.declared.Rebuilding.the-variants.{Whole, Denied, NoPlan}
 use Rattle.plan.specs.Front.{FrontSays}
-use Rattle.stripe.specs.Turns.{Mendable, Lacks, LowestIs, Due, Turned, Ready, Restored}
-use Rattle.stripe.specs.Stripes.{Sized, RebuildsAll, told}
+use Rattle.repairs.specs.Turns.{Mendable, Lacks, LowestIs, Due, Turned, Ready, Restored}
+use Rattle.shape.specs.Shapes.{Sized}
+use Rattle.repairs.specs.Repairs.{RebuildsAll}
 use Rattle.plan.proofs.Fronts.{Sound, front-refused}
-use Rattle.stripe.proofs.Tops.{has-plan, mendable, mended}
+use Rattle.shape.proofs.Plans.{has-plan}
+use Rattle.repairs.proofs.Repairing.{mendable, mended}
 
 -- ---- judging
 

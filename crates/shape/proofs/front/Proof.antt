@@ -6,9 +6,9 @@ use Rattle.note.specs.Given.{Given}
 use Rattle.note.proofs.Facts.{given-proper}
 use Rattle.plan.proofs.Verdicts.{not-yes, not-no}
 use Rattle.plan.proofs.Fronts.{front-8, front-0}
-use Rattle.stripe.proofs.Fronts.{shape-given, shape-sized, front-shape}
-use Rattle.stripe.proofs.front.Statement.{statement}
-use Rattle.stripe.proofs.front.Tie as tie
+use Rattle.shape.proofs.Fronts.{shape-given, shape-sized, front-shape}
+use Rattle.shape.proofs.front.Statement.{statement}
+use Rattle.shape.proofs.front.Tie as tie
 
 -- past the first test the layout is a given one
 given : (c : tie.Else1) → Given (c .before .before .args .l)

@@ -27,11 +27,13 @@ use Rattle.plan.specs.declared.Answer.the-variants.{Done, Refused}
 use Rattle.plan.specs.Codes.{codeOf, InRange}
 use Rattle.plan.specs.Plans.{said}
 use Rattle.plan.proofs.Codes.{code-proper}
-use Rattle.stripe.specs.declared.Stood.{Stood}
-use Rattle.stripe.specs.declared.Rebuilding.{Rebuilding}
-use Rattle.stripe.specs.declared.Rebuilding.the-variants.{Whole, Denied, NoPlan}
-use Rattle.stripe.specs.declared.Rebuilt.{Rebuilt}
-use Rattle.stripe.specs.Stripes.{Sized, stripeOf, told, Encodes, Loses, RepairsOne, RebuildsAll, Corrects, Fetches, PartOf, HandedBack, Views}
+use Rattle.shape.specs.declared.Stood.{Stood}
+use Rattle.repairs.specs.declared.Rebuilding.{Rebuilding}
+use Rattle.repairs.specs.declared.Rebuilding.the-variants.{Whole, Denied, NoPlan}
+use Rattle.repairs.specs.declared.Rebuilt.{Rebuilt}
+use Rattle.shape.specs.Shapes.{Sized, stripeOf}
+use Rattle.stripe.specs.Stripes.{Encodes, Loses, Corrects, Fetches, PartOf, HandedBack, Views}
+use Rattle.repairs.specs.Repairs.{told, RepairsOne, RebuildsAll}
 
 -- ---- answers and standings
 

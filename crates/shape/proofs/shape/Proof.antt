@@ -7,9 +7,9 @@ use Rattle.note.proofs.Facts.{given-proper}
 use Rattle.plan.specs.Codes.{InRange}
 use Rattle.plan.proofs.Verdicts.{told-yes, told-no}
 use Rattle.pieces.proofs.Blocks.{under}
-use Rattle.stripe.proofs.Fronts.{shape-6, shape-7, shape-0}
-use Rattle.stripe.proofs.shape.Statement.{statement}
-use Rattle.stripe.proofs.shape.Tie as tie
+use Rattle.shape.proofs.Fronts.{shape-6, shape-7, shape-0}
+use Rattle.shape.proofs.shape.Statement.{statement}
+use Rattle.shape.proofs.shape.Tie as tie
 
 -- past the first test the layout is a given one,
 given : (c : tie.Else1) → Given (c .before .before .args .l)

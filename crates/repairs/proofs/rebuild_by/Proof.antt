@@ -4,9 +4,9 @@ use native.Mathlib.Omega.{arith}
 use borrow.Author.Needs.{needs}
 use Rattle.note.proofs.Facts.{given-proper}
 use Rattle.plan.proofs.Fronts.{says-sound}
-use Rattle.stripe.proofs.Turning.{rebuilds-front, rebuilds-named, rebuild-ready, rebuilds-done}
-use Rattle.stripe.proofs.rebuild_by.Statement.{statement}
-use Rattle.stripe.proofs.rebuild_by.Tie as tie
+use Rattle.repairs.proofs.Turning.{rebuilds-front, rebuilds-named, rebuild-ready, rebuilds-done}
+use Rattle.repairs.proofs.rebuild_by.Statement.{statement}
+use Rattle.repairs.proofs.rebuild_by.Tie as tie
 
 front-requires : tie.Need-front-requires
 front-requires c κs = search needs

@@ -4,9 +4,9 @@ use native.Mathlib.Omega.{arith}
 use borrow.Author.Needs.{needs}
 use Rattle.note.proofs.Facts.{given-proper}
 use Rattle.plan.proofs.Verdicts.{not-yes, not-no}
-use Rattle.stripe.proofs.Turning.{lacks-present, lacks-judged}
-use Rattle.stripe.proofs.turns.lacks.Statement.{statement}
-use Rattle.stripe.proofs.turns.lacks.Tie as tie
+use Rattle.repairs.proofs.Turning.{lacks-present, lacks-judged}
+use Rattle.repairs.proofs.turns.lacks.Statement.{statement}
+use Rattle.repairs.proofs.turns.lacks.Tie as tie
 
 holds-requires : tie.Need-holds-requires
 holds-requires c κs = omega (arith, given-proper (c .args .l) (c .pre .0) .n, c .pre .1)

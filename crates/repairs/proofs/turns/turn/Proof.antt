@@ -4,9 +4,9 @@ use native.Mathlib.Omega.{arith}
 use borrow.Author.Needs.{needs}
 use Rattle.note.proofs.Facts.{given-proper}
 use Rattle.plan.proofs.Verdicts.{not-yes, not-no}
-use Rattle.stripe.proofs.Turning.{turn-passed, turn-others, turn-done}
-use Rattle.stripe.proofs.turns.turn.Statement.{statement}
-use Rattle.stripe.proofs.turns.turn.Tie as tie
+use Rattle.repairs.proofs.Turning.{turn-passed, turn-others, turn-done}
+use Rattle.repairs.proofs.turns.turn.Statement.{statement}
+use Rattle.repairs.proofs.turns.turn.Tie as tie
 
 holds-requires : tie.Need-holds-requires
 holds-requires c κs = omega (arith, given-proper (c .before .args .l) (c .before .pre .given) .n, c .before .pre .number)

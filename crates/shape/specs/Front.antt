@@ -7,7 +7,7 @@ use Rattle.calls.specs.Calls.{First, _unless_, by}
 use Rattle.plan.specs.declared.Standing.{Standing}
 use Rattle.plan.specs.declared.Answer.the-variants.{Refused}
 use Rattle.plan.specs.Front.{numbered}
-use Rattle.stripe.specs.declared.Stood.{Stood}
+use Rattle.shape.specs.declared.Stood.{Stood}
 
 -- the first of 6 and 7 that is not met, or 0
 pub record ShapeSays (l : Layout) (sized : Type 0) (number : ℕ) : Type 0 where

@@ -22,9 +22,10 @@ use Rattle.calls.specs.Calls.{laid}
 use Rattle.plan.specs.declared.Answer.{Answer}
 use Rattle.plan.specs.declared.Answer.the-variants.{Done}
 use Rattle.plan.specs.Codes.{codeOf}
-use Rattle.stripe.specs.declared.Stood.{Stood}
-use Rattle.stripe.specs.Stripes.{Sized, Encodes, Corrects}
-use Rattle.stripe.proofs.Outcomes.{encodes-unique, corrects-unique}
+use Rattle.shape.specs.declared.Stood.{Stood}
+use Rattle.shape.specs.Shapes.{Sized}
+use Rattle.stripe.specs.Stripes.{Encodes, Corrects}
+use Rattle.demands.proofs.Outcomes.{encodes-unique, corrects-unique}
 
 -- ---- 6 and 7 are met
 

@@ -5,9 +5,9 @@ use borrow.Author.Needs.{needs}
 use Rattle.note.proofs.Facts.{given-proper}
 use Rattle.plan.proofs.Verdicts.{not-yes, not-no}
 use Rattle.plan.proofs.Fronts.{says-sound}
-use Rattle.stripe.proofs.Tops.{repairs-front, repairs-9, repairs-10, repairs-14, repair-others, repairs-done}
-use Rattle.stripe.proofs.repair_by.Statement.{statement}
-use Rattle.stripe.proofs.repair_by.Tie as tie
+use Rattle.repairs.proofs.Repairing.{repairs-front, repairs-9, repairs-10, repairs-14, repair-others, repairs-done}
+use Rattle.repairs.proofs.repair_by.Statement.{statement}
+use Rattle.repairs.proofs.repair_by.Tie as tie
 
 front-requires : tie.Need-front-requires
 front-requires c κs = search needs
