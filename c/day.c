@@ -55,6 +55,16 @@ static store_layout read_layout(void)
     return said.layout;
 }
 
+static void show_groups(const store_layout *layout)
+{
+    for (size_t g = 0; g < layout->groups; g++) {
+        const store_group *group = &layout->list[g];
+        printf("group %zu, %s: %zu data blocks from %zu, ", g, group->d == 0 ? "branch" : "leaf", group->count, group->first);
+        printf("%u redundant from %zu, rows from %zu; ", group->h, layout->k + group->redundant, group->row);
+        printf("groups %zu, bytes %zu\n", group->size, 2 + group->len);
+    }
+}
+
 static void ask_price(const struct day *day)
 {
     store_limits limits = {1.75, 2.0};
@@ -153,6 +163,7 @@ int main(void)
 {
     const char *const corrected[K] = {RECORDS[0], RECORDS[1], "crew 31, train, rest 21:15-05:15", RECORDS[3]};
     struct day day = {.layout = read_layout()};
+    show_groups(&day.layout);
     ask_price(&day);
     encode(&day, RECORDS);
     lose(&day, 0);
