@@ -19,12 +19,13 @@
 // Nothing more is asked: every value of every struct and number, and any bytes, are allowed and get an answer.
 //
 // What a caller gets:
-// - A call that is accepted answers 0, one that is refused the number of its refusal (enum store_refusal). A refusal alters nothing lent. Where more
-//   than one number applies, it is the lowest. Only a note's faults, 1 to 5, come in reading order, with the offset of the record at fault.
+// - A call that is accepted answers number 0, one that is refused the number of its refusal (enum store_refusal); only store_view gives no number.
+//   A refusal alters nothing lent. Where more than one number applies, it is the lowest. Only a note's faults, 1 to 5, come in reading order, with
+//   the offset of the record at fault.
 // - The store keeps nothing between two calls, allocates nothing and has no global state: layout, standing, stripe and spare are the caller's, and
 //   calls on different stripes may run in different threads.
-// - The bytes that stand where a lost block was are of no account: no answer and no byte of another block depends on them. (store_encode ignores old
-//   marks: to it no block is lost.)
+// - The bytes that stand where a lost block was are of no account: no answer and no other byte depends on them. (store_encode ignores old marks: to
+//   it no block is lost.)
 #ifndef HRNKOVIDA_STORE_H
 #define HRNKOVIDA_STORE_H
 
@@ -45,7 +46,7 @@ enum {
     STORE_MOST_LENGTH = 1024  // L, from 1
 };
 
-// The refusals, in document 01's numbers and words. Each is given exactly when what it says is so.
+// The refusals, in document 01's numbers and words. Each function below lists those that it can give.
 enum store_refusal {
     STORE_ACCEPTED = 0,            // no refusal
     STORE_RECORD_CUT = 1,          // fewer than 4 bytes remain where a record must start, or it runs past the end of its branch or note
@@ -273,7 +274,9 @@ store_price_said store_price(store_layout layout, store_limits limits);
 #endif
 STORE_HOLDS(sizeof(size_t) == 8);
 STORE_HOLDS(sizeof(double) == 8);
-STORE_HOLDS(sizeof(store_group) == 56 && offsetof(store_group, d) == 1 && offsetof(store_group, len) == 8 && offsetof(store_group, count) == 48);
+STORE_HOLDS(sizeof(store_group) == 56 && offsetof(store_group, d) == 1 && offsetof(store_group, len) == 8 && offsetof(store_group, row) == 16);
+STORE_HOLDS(offsetof(store_group, first) == 24 && offsetof(store_group, redundant) == 32);
+STORE_HOLDS(offsetof(store_group, size) == 40 && offsetof(store_group, count) == 48);
 STORE_HOLDS(sizeof(store_layout) == 920 && offsetof(store_layout, list) == 8 && offsetof(store_layout, k) == 904 && offsetof(store_layout, r) == 912);
 STORE_HOLDS(sizeof(store_standing) == 16 && offsetof(store_standing, lost) == 8);
 STORE_HOLDS(sizeof(store_said) == 16 && offsetof(store_said, block) == 8);
