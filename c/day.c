@@ -55,13 +55,13 @@ static store_layout read_layout(void)
     return said.layout;
 }
 
+// The tree: a group's nested groups follow it.
 static void show_groups(const store_layout *layout)
 {
     for (size_t g = 0; g < layout->groups; g++) {
         const store_group *group = &layout->list[g];
         printf("group %zu, %s: %zu data blocks from %zu, ", g, group->d == 0 ? "branch" : "leaf", group->count, group->first);
-        printf("%u redundant from %zu, rows from %zu; ", group->h, layout->k + group->redundant, group->row);
-        printf("groups %zu, bytes %zu\n", group->size, 2 + group->len);
+        printf("%u redundant from %zu, %zu nested\n", group->h, layout->k + group->redundant, group->size - 1);
     }
 }
 

@@ -48,23 +48,23 @@ enum {
 
 // The refusals, in document 01's numbers and words. Each function below lists those that it can give.
 enum store_refusal {
-    STORE_ACCEPTED = 0,            // no refusal
-    STORE_RECORD_CUT = 1,          // fewer than 4 bytes remain where a record must start, or it runs past the end of its branch or note
-    STORE_UNKNOWN_KIND = 2,        // kind neither 1 nor 2
-    STORE_BAD_RECORD = 3,          // length below 2; leaf length not 4; branch length below 3; d = 0; fewer than two members
-    STORE_EXTRA_BYTES = 4,         // bytes after the top record
-    STORE_BOUND_PASSED = 5,        // a bound on k, n, groups, nesting or rows is passed
-    STORE_UNKNOWN_LAYOUT = 6,      // a layout that no accepted note gives
-    STORE_BAD_LENGTH = 7,          // L outside its range, or stripe not n x L bytes
-    STORE_STRAY_MARK = 8,          // a lost mark at n or above
-    STORE_NO_SUCH_BLOCK = 9,       // block number not below n (a correction: not below k)
-    STORE_NOT_LOST = 10,           // repair of, or plan for, a block not lost
-    STORE_ALREADY_LOST = 11,       // correction or loss of a block already lost
-    STORE_DIFFERENCE_TOO_FAR = 12, // offset plus difference passes L
-    STORE_BAD_SPARE = 13,          // spare not exactly L bytes
-    STORE_NO_PLAN = 14,            // the lost block to be planned, repaired or read, or in a rebuild any lost block, has no plan
-    STORE_LIMIT_NOT_A_NUMBER = 15, // a price limit is not a number
-    STORE_NO_LONE_PLAN = 16        // a data block lost alone has no plan
+    STORE_ACCEPTED = 0,                // no refusal
+    STORE_RECORD_PAST_END = 1,         // fewer than 4 bytes remain where a record must start, or it runs past the end of its branch or note
+    STORE_UNKNOWN_KIND = 2,            // kind neither 1 nor 2
+    STORE_UNSOUND_RECORD = 3,          // length below 2; leaf length not 4; branch length below 3; d = 0; fewer than two members
+    STORE_BYTES_AFTER = 4,             // bytes after the top record
+    STORE_BOUND_PASSED = 5,            // a bound on k, n, groups, nesting or rows is passed
+    STORE_UNKNOWN_LAYOUT = 6,          // a layout that no accepted note gives
+    STORE_STRIPE_LENGTH = 7,           // L outside its range, or stripe not n x L bytes
+    STORE_UNKNOWN_MARK = 8,            // a lost mark at n or above
+    STORE_UNKNOWN_BLOCK = 9,           // block number not below n (a correction: not below k)
+    STORE_NOT_LOST = 10,               // repair of, or plan for, a block not lost
+    STORE_ALREADY_LOST = 11,           // correction or loss of a block already lost
+    STORE_DIFFERENCE_PAST_BLOCK = 12,  // offset plus difference passes L
+    STORE_SPARE_LENGTH = 13,           // spare not exactly L bytes
+    STORE_NO_PLAN = 14,                // the lost block to be planned, repaired or read, or in a rebuild any lost block, has no plan
+    STORE_LIMIT_NOT_NUMBER = 15,       // a price limit is not a number
+    STORE_NO_PLAN_ALONE = 16           // a data block lost alone has no plan
 };
 
 // A group of a layout.

@@ -156,6 +156,22 @@ impl Day {
     }
 }
 
+/// The tree: a group's nested groups follow it.
+fn show_groups(layout: &Layout) {
+    for (g, group) in layout.groups().enumerate() {
+        let kind = if group.is_leaf() { "leaf" } else { "branch" };
+        let (data, redundant) = (group.data(), group.redundant());
+        println!(
+            "group {g}, {kind}: {} data blocks from {}, {} redundant from {}, {} nested",
+            data.len(),
+            data.start,
+            redundant.len(),
+            redundant.start,
+            group.nested(),
+        );
+    }
+}
+
 fn main() -> Done {
     let layout = Layout::read(&NOTE)?;
     println!(
@@ -163,6 +179,7 @@ fn main() -> Done {
         layout.data_blocks(),
         layout.blocks()
     );
+    show_groups(&layout);
     let price = layout.price(Limits {
         storage: 1.75,
         reads: 2.0,
