@@ -4,11 +4,11 @@ mod turns;
 ghost use mathlib.Core.Path.{_≡_};
 ghost use Prim.Native.Nat.{_+_, _≤_};
 ghost use lib.ListN.{length};
-ghost use Rattle.note.specs.Given.{Tells};
+ghost use Rattle.given.specs.Given.{Tells};
 ghost use Rattle.plan.specs.Front.{FrontSays};
 ghost use Rattle.stripe.specs.Front.{refusal, ShapeSays};
 ghost use Rattle.stripe.specs.Stripes.{Sized, Encodes, Loses, RepairsOne, RebuildsAll, Corrects, Fetches, Views};
-use note::Layout;
+use groups::Layout;
 use plan::Answer;
 use plan::Standing;
 
@@ -45,7 +45,7 @@ fn refuse(st: Standing, number: u8) -> Stood
 fn shape(l: Layout, len: usize, size: usize) -> u8
     ensures { λ r. ⌜ ShapeSays l (Sized l len size) r ⌝ }
 {
-    if !note::known(l) {
+    if !given::known(l) {
         return 6;
     }
     if len < 1 {
