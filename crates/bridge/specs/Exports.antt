@@ -7,7 +7,7 @@ use denote.Ref.{RefT, now}
 use lib.ListN.{length}
 use lib.Ieee as Ieee
 use lib.Ieee.{Float, binary64}
-use Rattle.note.specs.declared.Layout.{Layout}
+use Rattle.groups.specs.declared.Layout.{Layout}
 use Rattle.note.specs.declared.Reading.{Reading}
 use Rattle.note.specs.declared.Answer as Note
 use Rattle.plan.specs.declared.Standing.{Standing}

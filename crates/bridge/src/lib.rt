@@ -2,7 +2,7 @@
 ghost use Rattle.bridge.specs.Exports.{noteNumbers, planNumbers, priceNumbers, ReadSays, PlanSays, CorrectSays, FetchSays, ViewSays, PriceSays};
 ghost use Rattle.store.specs.Store.{Encode, Lose, Repair, Rebuild};
 ghost use mathlib.Core.Path.{_≡_};
-use note::Layout;
+use groups::Layout;
 use note::Reading;
 use plan::Plan;
 use plan::Planned;

@@ -8,7 +8,7 @@ use native.Mathlib.Omega.{arith}
 use denote.Ref.{RefT, now}
 use lib.ListN.{length, drop, length-drop}
 use lib.Seq.{length-take-le}
-use Rattle.note.specs.declared.Layout.{Layout}
+use Rattle.groups.specs.declared.Layout.{Layout}
 use Rattle.note.specs.declared.Reading.{Reading}
 use Rattle.note.specs.Note.{readNote, reading}
 use Rattle.marks.specs.Marks.{marked}

@@ -11,9 +11,9 @@ use Rattle.field.specs.Field.{mul}
 use Rattle.field.proofs.Product.{mul-zero-l}
 use Rattle.linear.specs.Sets.{tally}
 use Rattle.linear.proofs.Existence.{plan-few}
-use Rattle.note.specs.declared.Layout.{Layout}
-use Rattle.note.specs.Given.{Given}
-use Rattle.note.proofs.Facts.{given-proper}
+use Rattle.groups.specs.declared.Layout.{Layout}
+use Rattle.given.specs.Given.{Given}
+use Rattle.given.proofs.Facts.{given-proper}
 use Rattle.marks.specs.Marks.{marked}
 use Rattle.rows.specs.Rows.{blocks, row}
 use Rattle.rows.proofs.Parts.{row-byte}

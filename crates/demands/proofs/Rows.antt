@@ -11,8 +11,8 @@ use lib.ListN.{length}
 use lib.Pow.{pow-lt}
 use borrow.Author.Tests.{lt-ltb}
 use Rattle.linear.proofs.Sets.{in-and-out}
-use Rattle.note.specs.declared.Layout.{Layout}
-use Rattle.note.specs.Given.{Given}
+use Rattle.groups.specs.declared.Layout.{Layout}
+use Rattle.given.specs.Given.{Given}
 use Rattle.marks.specs.Marks.{marked, noneFrom}
 use Rattle.marks.proofs.Bits.{none-from}
 use Rattle.rows.specs.Rows.{blocks}

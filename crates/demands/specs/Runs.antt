@@ -3,7 +3,7 @@ use mathlib.Core.Path.{_≡_}
 use mathlib.Core.List.{List, [], _∷_}
 use Prim.Native.Nat.{ℕ, _<_}
 use lib.ListN.{length, getD}
-use Rattle.note.specs.declared.Layout.{Layout}
+use Rattle.groups.specs.declared.Layout.{Layout}
 use Rattle.calls.specs.Calls.{lose, repair, correct}
 use Rattle.calls.specs.Demands.{Alike, Turn}
 use Rattle.plan.specs.declared.Standing.{Standing}

@@ -1,7 +1,7 @@
 // One field of a layout altered: it becomes one more, and the largest number 0.
 ghost use Prim.Native.Nat.{_<_};
-use note::Group;
-use note::Layout;
+use groups::Group;
+use groups::Layout;
 
 fn up(x: usize) -> usize {
     std::num::wrapping_add_usize(x, 1)

@@ -1,7 +1,7 @@
 // The calls: each writes its line.
 use crate::fields;
 use crate::show;
-use note::Layout;
+use groups::Layout;
 use plan::Standing;
 use shape::Stood;
 

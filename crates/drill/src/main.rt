@@ -27,8 +27,8 @@ ghost use mathlib.Core.Path.{_≡_};
 ghost use Prim.Native.Nat.{_≤_, _<_};
 ghost use lib.ListN.{length};
 ghost use Rattle.drill.specs.Room.{Room, Same};
+use groups::Layout;
 use libc::STDIN_FILENO;
-use note::Layout;
 use plan::Standing;
 
 // What is kept from command to command, with the number of bytes that are in use of the buffer for the stripe and of that for the spare.

@@ -1,7 +1,7 @@
 // The price, its figures as fractions over k.
 use crate::fields::wide;
 use crate::show;
-use note::Layout;
+use groups::Layout;
 use price::Limits;
 use price::Price;
 

@@ -8,9 +8,9 @@ use native.Mathlib.Nat.{add-zero, add-suc, suc-add, add-assoc}
 use native.Mathlib.Numerals.{add-one}
 use lib.ListN.{length, getD, set, length-append}
 use lib.Seq.{sets, getD-set-same, getD-set-other, set-set, set-comm}
-use Rattle.note.specs.declared.Group.{Group}
-use Rattle.note.specs.declared.reader.Walk.{Walk}
-use Rattle.note.specs.Note.{noGroup, grown, ended, closed}
+use Rattle.groups.specs.declared.Group.{Group}
+use Rattle.groups.specs.declared.Walk.{Walk}
+use Rattle.groups.specs.Groups.{noGroup, grown, ended, closed}
 use Rattle.note.specs.Tree.{Tree, Members, over, branchLength, noteOf, notesIn, datas, datasIn, redundants, redundantsIn, size, sizeIn, groupsOf, groupsIn}
 use Rattle.note.specs.Tree.Tree.{leaf, branch}
 use Rattle.note.specs.Tree.Members.{pair, more}

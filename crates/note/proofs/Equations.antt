@@ -11,11 +11,13 @@ use lib.Dec.{eqb}
 use borrow.Author.Tests.{eqb-true, eqb-false, eq-eqb, ne-eqb}
 use Rattle.note.specs.declared.reader.Head.{Head}
 use Rattle.note.specs.declared.reader.Head.the-variants.{Bad, Leaf, Branch}
-use Rattle.note.specs.declared.reader.Walk.{Walk}
-use Rattle.note.specs.Note.{pick, ifEq, headAt, byHead, goOn, next, refusedAt, entered, closed, groupOf, membersOf, groupRead, membersRead}
-use Rattle.note.specs.Inner.{Sound}
-use Rattle.note.proofs.Picks.{lt-yes, lt-no, eq-yes, eq-no, by-lt, by-eq}
-use Rattle.note.proofs.Heads.{Says, says, room}
+use Rattle.groups.specs.declared.Walk.{Walk}
+use Rattle.groups.specs.Groups.{pick, ifEq, refusedAt, entered, closed}
+use Rattle.note.specs.Note.{headAt, byHead, goOn, next, groupOf, membersOf, groupRead, membersRead}
+use Rattle.groups.specs.Inner.{Sound}
+use Rattle.groups.proofs.Picks.{lt-yes, lt-no, eq-yes, eq-no, by-lt, by-eq}
+use Rattle.groups.proofs.Totals.{room}
+use Rattle.note.proofs.Heads.{Says, says}
 
 -- ---- going on
 

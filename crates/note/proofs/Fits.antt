@@ -2,13 +2,13 @@
 use Prim.Native.Nat.{ℕ, _+_, _*_, _≤_, _<_}
 use native.Mathlib.Omega.{arith}
 use lib.ListN.{length, length-append}
-use Rattle.note.specs.declared.Layout.{Layout}
-use Rattle.note.specs.declared.reader.Walk.{Walk}
-use Rattle.note.specs.Note.{grown, atStart}
+use Rattle.groups.specs.declared.Layout.{Layout}
+use Rattle.groups.specs.declared.Walk.{Walk}
+use Rattle.groups.specs.Groups.{grown, atStart}
 use Rattle.note.specs.Tree.{Tree, Members, over, noteOf, notesIn, datas, datasIn, redundants, redundantsIn, size, sizeIn, nesting, nestingIn, rows, rowsIn, fewest, fewestIn, Within}
 use Rattle.note.specs.Tree.Tree.{leaf, branch}
 use Rattle.note.specs.Tree.Members.{pair, more}
-use Rattle.note.proofs.Heads.{Room}
+use Rattle.groups.proofs.Totals.{Room}
 use Rattle.note.proofs.Advance.{after, groups-length}
 
 -- totals that stay within the bounds from the layout l on, at the nesting `level` and with `row` rows round them

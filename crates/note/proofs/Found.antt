@@ -7,13 +7,14 @@ use native.Mathlib.Nat.{add-zero}
 use lib.ListN.{length, drop, getD, length-append, length-drop, length-set}
 use lib.Seq.{getD-drop, drop-drop, length-sets}
 use Rattle.note.specs.declared.reader.Head.the-variants.{Leaf, Branch}
-use Rattle.note.specs.declared.reader.Walk.{Walk}
-use Rattle.note.specs.Note.{grown, closed}
-use Rattle.note.specs.Given.{Bytes}
+use Rattle.groups.specs.declared.Walk.{Walk}
+use Rattle.groups.specs.Groups.{grown, closed}
+use Rattle.note.specs.Note.{Bytes}
 use Rattle.note.specs.Tree.{Tree, Members, over, branchLength, noteOf, notesIn, groupsOf}
 use Rattle.note.specs.Tree.Tree.{leaf, branch}
 use Rattle.note.specs.Tree.Members.{pair, more}
-use Rattle.note.proofs.Heads.{Says, Room}
+use Rattle.groups.proofs.Totals.{Room}
+use Rattle.note.proofs.Heads.{Says}
 use Rattle.note.proofs.Runs.{GroupRun, MembersRun}
 use Rattle.note.proofs.Runs.GroupRun.{leaf-run, branch-run}
 use Rattle.note.proofs.Runs.MembersRun.{end-run, more-run}

@@ -1,5 +1,3 @@
-pub mod Picks
-pub mod Headers
 pub mod Heads
 pub mod Equations
 pub mod Steps
@@ -9,9 +7,4 @@ pub mod Fits
 pub mod Found
 pub mod Readings
 pub mod Trees
-pub mod RoundTrip
-pub mod Places
-pub mod Facts
-pub mod Put
-pub mod Equal
 pub mod Worked

@@ -7,13 +7,14 @@ use native.Mathlib.Nat.{add-zero}
 use lib.ListN.{length, drop, getD, length-append, length-set}
 use lib.Seq.{getD-drop, drop-drop, drop-append-seam, length-sets}
 use Rattle.note.specs.declared.reader.Head.the-variants.{Leaf, Branch}
-use Rattle.note.specs.declared.reader.Walk.{Walk}
-use Rattle.note.specs.Note.{headAt, leafAt, branchAt, next, entered, grown, closed, groupRead, membersRead}
+use Rattle.groups.specs.declared.Walk.{Walk}
+use Rattle.groups.specs.Groups.{entered, grown, closed}
+use Rattle.note.specs.Note.{headAt, recordAt, leafAt, branchAt, next, groupRead, membersRead}
 use Rattle.note.specs.Tree.{Tree, Members, over, leafRecord, branchLength, branchRecord, noteOf, notesIn, size, sizeIn, groupsOf}
 use Rattle.note.specs.Tree.Tree.{leaf, branch}
 use Rattle.note.specs.Tree.Members.{pair, more}
-use Rattle.note.proofs.Picks.{lt-no, eq-yes, eq-no}
-use Rattle.note.proofs.Heads.{entered-is}
+use Rattle.groups.proofs.Picks.{lt-no, eq-yes, eq-no}
+use Rattle.groups.proofs.Totals.{entered-is}
 use Rattle.note.proofs.Equations.{next-go, membersIn, group-leaf, group-branch, members-more, members-end}
 use Rattle.note.proofs.Advance.{after, afterIn, after-leaf, after-branch, after-pair, after-more}
 use Rattle.note.proofs.Fits.{Fits, FitsIn, leaf-fits, branch-fits, pair-fits, more-fits, note-short, notes-short}
@@ -31,7 +32,7 @@ behind : (s : List ℕ) (at : ℕ) (l rest : List ℕ) → drop at s ≡ l ++ re
 behind s at l rest e = sym (drop-drop (length l) at s) ∙ ap (drop (length l)) e ∙ drop-append-seam l rest
 
 leaf-head : (s : List ℕ) (at end h d : ℕ) (rest : List ℕ) → drop at s ≡ leafRecord h d ++ rest → at + 6 ≤ end → 0 < d → headAt s at end ≡ Leaf h d
-unfolding headAt leafAt
+unfolding headAt recordAt leafAt
 leaf-head s at end h d rest e n p =
     let b0 = first-byte s at (leafRecord h d ++ rest) e in
     let b1 = byte s at 1 (leafRecord h d ++ rest) e in
@@ -45,7 +46,7 @@ leaf-head s at end h d rest e n p =
 
 branch-head : (s : List ℕ) (at end h : ℕ) (members rest : List ℕ) → drop at s ≡ branchRecord h members ++ rest →
     at + 2 + branchLength members ≤ end → length members ≤ 96 → headAt s at end ≡ Branch h (branchLength members)
-unfolding headAt branchAt
+unfolding headAt recordAt branchAt
 branch-head s at end h members rest e n p =
     let b0 = first-byte s at (branchRecord h members ++ rest) e in
     let b1 = byte s at 1 (branchRecord h members ++ rest) e in

@@ -7,9 +7,11 @@ use native.Mathlib.Omega.{arith}
 use native.Mathlib.Decide.{decLt, ℕ-discrete}
 use Rattle.note.specs.declared.reader.Head.{Head}
 use Rattle.note.specs.declared.reader.Head.the-variants.{Bad, Leaf, Branch}
-use Rattle.note.specs.declared.reader.Walk.{Walk}
-use Rattle.note.specs.Note.{headAt, entered, grown, closed, groupRead, membersRead}
-use Rattle.note.proofs.Heads.{Says, says, Room, room}
+use Rattle.groups.specs.declared.Walk.{Walk}
+use Rattle.groups.specs.Groups.{entered, grown, closed}
+use Rattle.note.specs.Note.{headAt, groupRead, membersRead}
+use Rattle.groups.proofs.Totals.{Room, room}
+use Rattle.note.proofs.Heads.{Says, says}
 use Rattle.note.proofs.Equations.{byKind, next-holds, membersIn, group-by-kind, group-goes, members-few, members-end, members-more}
 
 mutual

@@ -5,10 +5,11 @@ use mathlib.Core.List.{List}
 use native.Mathlib.Omega.{arith}
 use lib.ListN.{length}
 use Rattle.note.specs.declared.reader.Head.the-variants.{Branch}
-use Rattle.note.specs.declared.reader.Walk.{Walk}
-use Rattle.note.specs.Note.{headAt, next, entered, groupRead, membersRead, atStart, finish, readNote}
-use Rattle.note.specs.Inner.{Sound}
-use Rattle.note.proofs.Heads.{room}
+use Rattle.groups.specs.declared.Walk.{Walk}
+use Rattle.groups.specs.Groups.{entered, atStart}
+use Rattle.note.specs.Note.{headAt, next, groupRead, membersRead, finish, readNote}
+use Rattle.groups.specs.Inner.{Sound}
+use Rattle.groups.proofs.Totals.{room}
 use Rattle.note.proofs.Equations.{next-stop, next-go, Moved, membersIn, group-branch, group-goes, members-more}
 
 -- the state with one group more

@@ -6,14 +6,14 @@ use native.Mathlib.Omega.{arith}
 use native.Mathlib.Nat.{zero-add}
 use lib.ListN.{length, drop, replicate, drop-of-length-le}
 use lib.Seq.{sets, sets-eq}
-use Rattle.note.specs.declared.Group.{Group}
-use Rattle.note.specs.declared.Layout.{Layout}
-use Rattle.note.specs.declared.reader.Walk.{Walk}
-use Rattle.note.specs.Note.{noGroup, atStart, groupRead, Outcome, finish, readNote}
+use Rattle.groups.specs.declared.Group.{Group}
+use Rattle.groups.specs.declared.Layout.{Layout}
+use Rattle.groups.specs.declared.Walk.{Walk}
+use Rattle.groups.specs.Groups.{noGroup, atStart}
+use Rattle.note.specs.Note.{Bytes, groupRead, Outcome, finish, readNote}
 use Rattle.note.specs.Note.Outcome.{layout, refusal}
-use Rattle.note.specs.Given.{Bytes}
 use Rattle.note.specs.Tree.{Tree, noteOf, datas, redundants, size, groupsOf, layoutOf, Within}
-use Rattle.note.proofs.Picks.{lt-no, eq-yes, by-lt, by-eq}
+use Rattle.groups.proofs.Picks.{lt-no, eq-yes, by-lt, by-eq}
 use Rattle.note.proofs.Runs.{group-run}
 use Rattle.note.proofs.Advance.{after, groups-length}
 use Rattle.note.proofs.Fits.{fits-within, within-fits}

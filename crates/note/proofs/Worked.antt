@@ -3,12 +3,13 @@ use Prim.Native.Nat.{ℕ}
 use mathlib.Core.Path.{_≡_, refl}
 use mathlib.Core.List.{List, _∷_, map}
 use lib.ListN.{replicate}
-use Rattle.note.specs.Note.{ifLt, ifEq, headAt, leafAt, branchAt, boundPassed, entered, next, groupOf, groupRead, noGroup, readNote}
+use Rattle.groups.specs.Groups.{ifLt, ifEq, boundPassed, entered, noGroup}
+use Rattle.note.specs.Note.{headAt, recordAt, leafAt, branchAt, next, groupOf, groupRead, readNote}
 use Rattle.note.specs.Note.Outcome.{layout}
 use Rattle.note.specs.Worked.{Told, told, sample, notes}
 
 pub notes-read : map (λ (p : List ℕ × Told). told (readNote (p .0))) notes ≡ map (λ (p : List ℕ × Told). p .1) notes
-unfolding notes told readNote groupRead groupOf headAt leafAt branchAt boundPassed entered ifLt ifEq next
+unfolding notes told readNote groupRead groupOf headAt recordAt leafAt branchAt boundPassed entered ifLt ifEq next
 notes-read = refl
 
 pub sample-read : readNote sample ≡
@@ -23,5 +24,5 @@ pub sample-read : readNote sample ≡
       k = 4;
       r = 3;
     })
-unfolding readNote groupRead groupOf headAt leafAt branchAt boundPassed entered ifLt ifEq next
+unfolding readNote groupRead groupOf headAt recordAt leafAt branchAt boundPassed entered ifLt ifEq next
 sample-read = refl

@@ -4,33 +4,18 @@
 -- 2 (3), end (1), kind (2), body (3), then bounds on the running totals (5), then members, whose count is judged when the branch ends.
 -- `groupOf` and `membersOf` call each other, so each counts down a number that is large enough. `groupRead` and `membersRead` choose it; the
 -- equations that a reader expects of these two stand in proofs/Equations, and nothing after them looks at the count.
-use Prim.Native.Nat.{ℕ, zero, suc, _+_, _-_, _*_}
+use Prim.Native.Nat.{ℕ, zero, suc, _+_, _-_, _*_, _<_}
 use mathlib.Core.List.{List}
 use mathlib.Core.Bool.{Bool, true, false}
-use lib.ListN.{length, getD, set, replicate}
-use lib.Dec.{ltb, eqb}
+use lib.ListN.{length, getD}
+use lib.Dec.{eqb}
+use Rattle.groups.specs.declared.Layout.{Layout}
+use Rattle.groups.specs.declared.Walk.{Walk}
+use Rattle.groups.specs.Groups.{ifLt, ifEq, blank, atStart, refusedAt, entered, closed}
 use Rattle.note.specs.declared.reader.Head.{Head}
 use Rattle.note.specs.declared.reader.Head.the-variants.{Bad, Leaf, Branch}
-use Rattle.note.specs.declared.Group.{Group}
-use Rattle.note.specs.declared.Layout.{Layout}
-use Rattle.note.specs.declared.reader.Walk.{Walk}
 use Rattle.note.specs.declared.Answer.the-variants.{Accepted, Refused}
 use Rattle.note.specs.declared.Reading.{Reading}
-
--- ---- tests
-
--- the first if the test holds, else the second
-abbrev pub pick : {A : Type 0} → Bool → A → A → A
-pick true x y = x
-pick false x y = y
-
--- x if a < b, else y
-unfoldable pub ifLt : {A : Type 0} → ℕ → ℕ → A → A → A
-ifLt a b x y = pick (ltb a b) x y
-
--- x if a is b, else y
-unfoldable pub ifEq : {A : Type 0} → ℕ → ℕ → A → A → A
-ifEq a b x y = pick (eqb a b) x y
 
 -- ---- one record
 
@@ -58,108 +43,26 @@ leafAt s at len =
 unfoldable pub branchAt : List ℕ → ℕ → ℕ → Head
 branchAt s at len = ifLt len 3 (Bad 3) (Branch (getD s (at + 4) 0) len)
 
--- what stands at `at`, where a record must start, in a branch or note that ends at `end`: "4 bytes present (1), length below 2 (3), end (1),
--- kind (2), body (3)"
+-- a record of the given length and kind, where the length may come to `room`: "length below 2 (3), end (1), kind (2), body (3)"
+unfoldable pub recordAt : List ℕ → ℕ → ℕ → ℕ → ℕ → Head
+recordAt s at room len kind =
+    -- 3: length below 2
+    ifLt len 2 (Bad 3)
+    -- 1: it runs past the end of its branch or note
+    (ifLt room len (Bad 1)
+    (ifEq kind 1 (leafAt s at len)
+    (ifEq kind 2 (branchAt s at len)
+    -- 2: kind neither 1 nor 2
+    (Bad 2))))
+
+-- what stands at `at`, where a record must start, in a branch or note that ends at `end`: "4 bytes present (1)", then the record
 unfoldable pub headAt : List ℕ → ℕ → ℕ → Head
 headAt s at end =
     -- 1: fewer than 4 bytes remain where a record must start
     ifLt (end - at) 4 (Bad 1)
-    -- 3: length below 2
-    (ifLt (lengthAt s at) 2 (Bad 3)
-    -- 1: it runs past the end of its branch or note
-    (ifLt (end - at - 2) (lengthAt s at) (Bad 1)
-    (ifEq (kindAt s at) 1 (leafAt s at (lengthAt s at))
-    (ifEq (kindAt s at) 2 (branchAt s at (lengthAt s at))
-    -- 2: kind neither 1 nor 2
-    (Bad 2)))))
-
--- ---- layouts
-
--- an unused entry of a layout: every part of it is 0
-abbrev pub noGroup : Group
-noGroup = record { h = 0; d = 0; len = 0; row = 0; first = 0; redundant = 0; size = 0; count = 0 }
-
--- the group x of a layout
-abbrev pub groupAt : Layout → ℕ → Group
-groupAt l x = getD (l .list) x noGroup
-
--- the layout of which nothing is read yet, and that of a refused note
-abbrev pub blank : Layout
-blank = record { groups = 0; list = replicate 16 noGroup; k = 0; r = 0 }
-
--- "bounds on the running totals (5)": groups at most 16, nesting at most 4, rows on a path at most 16, k at most 32, n at most 48. The layout
--- so far is l, the group's nesting is `level`, and the groups round it have `rows` rows. 0 if no bound is passed
-unfoldable pub boundPassed : ℕ → ℕ → ℕ → ℕ → Layout → ℕ
-boundPassed level rows h d l =
-    -- groups
-    ifLt 16 (l .groups + 1) 5
-    -- nesting
-    (ifLt 4 level 5
-    -- rows on a path from top to leaf
-    (ifLt 16 (rows + h) 5
-    -- k
-    (ifLt 32 (l .k + d) 5
-    -- n
-    (ifLt 48 (l .k + d + l .r + h) 5
-    0))))
-
--- the layout with one group more, in the order of the headers. "Data blocks are numbered from 0 in note order", so its first is the number of
--- those before; "Redundant blocks follow .. in the order in which their groups' headers stand in the note"; "A group's rows start at the sum of
--- the h of all groups round it."
-abbrev pub withGroup : ℕ → ℕ → ℕ → ℕ → Layout → Layout
-withGroup rows h d len l =
-    record {
-      groups = l .groups + 1;
-      list = set (l .list) (l .groups)
-          (record { h = h; d = d; len = len; row = rows; first = l .k; redundant = l .r; size = 1; count = d });
-      k = l .k + d;
-      r = l .r + h;
-    }
+    (recordAt s at (end - at - 2) (lengthAt s at) (kindAt s at))
 
 -- ---- the reader
-
--- a fault: its number, and the offset of the record at fault
-abbrev pub refusedAt : ℕ → ℕ → Walk → Walk
-refusedAt number offset w = record { lay = w .lay; at = offset; fault = number }
-
--- one group more: `step` bytes of its record are passed
-abbrev pub grown : ℕ → ℕ → ℕ → ℕ → ℕ → Walk → Walk
-grown rows h d len step w = record { lay = withGroup rows h d len (w .lay); at = w .at + step; fault = 0 }
-
--- the same, if the running totals allow it
-unfoldable pub entered : ℕ → ℕ → ℕ → ℕ → ℕ → ℕ → Walk → Walk
-entered level rows h d len step w =
-    ifEq (boundPassed level rows h d (w .lay)) 0
-    (grown rows h d len step w)
-    (refusedAt (boundPassed level rows h d (w .lay)) (w .at) w)
-
--- a branch that ends before the group `groups`, with k data blocks so far: how many groups and data blocks are inside it
-abbrev pub ended : ℕ → ℕ → ℕ → Group → Group
-ended own groups k g =
-    record {
-      h = g .h;
-      d = g .d;
-      len = g .len;
-      row = g .row;
-      first = g .first;
-      redundant = g .redundant;
-      size = groups - own;
-      count = k - g .first;
-    }
-
--- the branch that is the group `own` has ended
-abbrev pub closed : ℕ → Walk → Walk
-closed own w =
-    record {
-      lay = record {
-        groups = w .lay .groups;
-        list = set (w .lay .list) own (ended own (w .lay .groups) (w .lay .k) (groupAt (w .lay) own));
-        k = w .lay .k;
-        r = w .lay .r;
-      };
-      at = w .at;
-      fault = 0;
-    }
 
 -- what is done for each kind of head
 abbrev pub byHead : Head → (ℕ → Walk) → (ℕ → ℕ → Walk) → (ℕ → ℕ → Walk) → Walk
@@ -208,6 +111,10 @@ membersRead s end level rows own start count w = membersOf (2 * (end - w .at) + 
 
 -- ---- the note
 
+-- a note is a list of bytes
+pub record Bytes (s : List ℕ) : Type 0 where
+  pub below : (i : ℕ) → getD s i 0 < 256
+
 -- what reading a note comes to: its layout, or a refusal with its number and offset
 pub data Outcome : Type 0 where
   layout : Layout → Outcome
@@ -219,10 +126,6 @@ finish size w =
     ifEq (w .fault) 0
     (ifLt (w .at) size (refusal 4 (w .at)) (layout (w .lay)))
     (refusal (w .fault) (w .at))
-
--- the reader before the first record
-abbrev pub atStart : Walk
-atStart = record { lay = blank; at = 0; fault = 0 }
 
 -- what reading the note s comes to: its top record is a group of nesting 1, with no rows round it, and ends where the note ends
 unfoldable pub readNote : List ℕ → Outcome

@@ -3,9 +3,9 @@
 use Prim.Native.Nat.{ℕ, _+_, _-_, _/_, _%_, _≤_, min, max}
 use mathlib.Core.List.{List, [], _∷_, _++_}
 use lib.ListN.{length, replicate}
-use Rattle.note.specs.declared.Group.{Group}
-use Rattle.note.specs.declared.Layout.{Layout}
-use Rattle.note.specs.Note.{noGroup}
+use Rattle.groups.specs.declared.Group.{Group}
+use Rattle.groups.specs.declared.Layout.{Layout}
+use Rattle.groups.specs.Groups.{noGroup}
 
 mutual
   -- a group: "leaf group: one byte h, its own redundant blocks, and one byte d, its data blocks"; "branch group: one byte h, then .. records"

@@ -6,8 +6,8 @@ use Prim.Native.Nat.{ℕ, _<_, _≤_}
 use native.Mathlib.Omega.{arith}
 use lib.ListN.{length, getD}
 use Rattle.linear.specs.Greedy.{visited}
-use Rattle.note.specs.declared.Layout.{Layout}
-use Rattle.note.specs.Given.{Given}
+use Rattle.groups.specs.declared.Layout.{Layout}
+use Rattle.given.specs.Given.{Given}
 use Rattle.rows.specs.Rows.{blocks, row}
 use Rattle.rows.specs.Visits.{visits}
 use Rattle.rows.proofs.Parts.{row-data, row-byte}

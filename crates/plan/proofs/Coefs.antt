@@ -14,9 +14,9 @@ use Rattle.linear.proofs.Combinations.{combo-more, combo-cong}
 use Rattle.linear.proofs.Choice.{kept-in}
 use Rattle.linear.proofs.Frames.{combo-frame, plan-shrink}
 use Rattle.linear.proofs.Agreement.{visited-agree, combo-agree, plan-agree}
-use Rattle.note.specs.declared.Layout.{Layout}
-use Rattle.note.specs.Given.{Given}
-use Rattle.note.proofs.Facts.{given-proper}
+use Rattle.groups.specs.declared.Layout.{Layout}
+use Rattle.given.specs.Given.{Given}
+use Rattle.given.proofs.Facts.{given-proper}
 use Rattle.marks.specs.Marks.{marked}
 use Rattle.rows.specs.Rows.{blocks, row}
 use Rattle.rows.specs.Visits.{visits}

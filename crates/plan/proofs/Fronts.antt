@@ -6,8 +6,8 @@ use mathlib.Core.List.{List, [], _∷_, _++_}
 use mathlib.Core.Logic.{inl, inr}
 use Prim.Native.Nat.{ℕ, zero, suc, _≤_}
 use native.Mathlib.Omega.{arith}
-use Rattle.note.specs.declared.Layout.{Layout}
-use Rattle.note.specs.Given.{Given}
+use Rattle.groups.specs.declared.Layout.{Layout}
+use Rattle.given.specs.Given.{Given}
 use Rattle.linear.proofs.Sets.{in-and-out}
 use Rattle.marks.specs.Marks.{marked, noneFrom}
 use Rattle.marks.proofs.Bits.{none-from}

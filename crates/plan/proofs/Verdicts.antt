@@ -9,9 +9,9 @@ use Rattle.linear.specs.Solved.{vec}
 use Rattle.linear.specs.declared.Answer as Linear
 use Rattle.linear.proofs.Sets.{in-and-out}
 use Rattle.linear.proofs.Existence.{plan-few}
-use Rattle.note.specs.declared.Layout.{Layout}
-use Rattle.note.specs.Given.{Given, Tells}
-use Rattle.note.proofs.Facts.{given-proper}
+use Rattle.groups.specs.declared.Layout.{Layout}
+use Rattle.given.specs.Given.{Given, Tells}
+use Rattle.given.proofs.Facts.{given-proper}
 use Rattle.marks.specs.Marks.{marked}
 use Rattle.rows.specs.Rows.{blocks, row}
 use Rattle.rows.proofs.Parts.{row-byte}

@@ -1,7 +1,7 @@
 -- Inside: what the functions that ask 6, 7 and 8 answer, as a number. No public contract names what stands here.
 use mathlib.Core.List.{List}
 use Prim.Native.Nat.{ℕ, zero, suc}
-use Rattle.note.specs.declared.Layout.{Layout}
+use Rattle.groups.specs.declared.Layout.{Layout}
 use Rattle.calls.specs.Calls as Calls
 use Rattle.calls.specs.Calls.{First, by, done, refused}
 use Rattle.plan.specs.declared.Standing.{Standing}

@@ -2,7 +2,7 @@
 -- plan is asked for as a repair is.
 use mathlib.Core.Path.{_≡_}
 use Prim.Native.Nat.{ℕ}
-use Rattle.note.specs.declared.Layout.{Layout}
+use Rattle.groups.specs.declared.Layout.{Layout}
 use Rattle.marks.specs.Marks.{marked}
 use Rattle.calls.specs.Code.{PlanOf, HasPlan}
 use Rattle.calls.specs.Calls as Calls

@@ -2,7 +2,7 @@
 ghost use mathlib.Core.Path.{_≡_};
 ghost use Prim.Native.Nat.{_<_, _≤_};
 ghost use lib.ListN.{length};
-ghost use Rattle.note.specs.Given.{Given};
+ghost use Rattle.given.specs.Given.{Given};
 ghost use Rattle.rows.specs.Rows.{blocks};
 ghost use Rattle.linear.specs.Sets.{tally};
 ghost use Rattle.linear.specs.Solved.{vec, Survivors, Solved};
@@ -11,7 +11,7 @@ ghost use Rattle.plan.specs.Front.{FrontSays};
 ghost use Rattle.plan.specs.Listing.{blank, offered, listOf};
 ghost use Rattle.plan.specs.Plans.{Plans, refusal};
 ghost use Rattle.plan.specs.Inner.{rowList, Coefficients};
-use note::Layout;
+use groups::Layout;
 
 // The standing of a stripe: L, and the set of lost blocks, bit b being block b's mark. Every value has a meaning.
 #[repr(C)]
@@ -113,7 +113,7 @@ pub fn coefficients(l: Layout, lost: u64, b: usize) -> linear::Answer
 pub fn front(l: Layout, st: Standing) -> u8
     ensures { λ r. ⌜ FrontSays l st (InRange (st .len)) r ⌝ }
 {
-    if !note::known(l) {
+    if !given::known(l) {
         return 6;
     }
     let len = st.len;

@@ -7,8 +7,8 @@ use native.Mathlib.Omega.{arith}
 use lib.IntN.{pos, negsuc}
 use lib.Ieee as Ieee
 use lib.Ieee.{fin}
-use Rattle.note.specs.declared.Layout.{Layout}
-use Rattle.note.specs.Given.{Given}
+use Rattle.groups.specs.declared.Layout.{Layout}
+use Rattle.given.specs.Given.{Given}
 use Rattle.rows.specs.Rows.{blocks}
 use Rattle.calls.specs.Calls as Calls
 use Rattle.calls.specs.Calls.{First, done, refused, by, naming}

@@ -8,8 +8,8 @@ use lib.IntN.{pos}
 use lib.Ieee as Ieee
 use lib.Ieee.{Float, binary64}
 use Rattle.linear.specs.Sets.{tally}
-use Rattle.note.specs.declared.Layout.{Layout}
-use Rattle.note.specs.Given.{Given}
+use Rattle.groups.specs.declared.Layout.{Layout}
+use Rattle.given.specs.Given.{Given}
 use Rattle.rows.specs.Rows.{blocks}
 use Rattle.calls.specs.Code.{HasPlan, PlanOf}
 use Rattle.calls.specs.Calls as Calls

@@ -8,8 +8,8 @@ use native.Mathlib.Omega.{arith}
 use lib.ListN.{length}
 use Rattle.linear.specs.declared.Answer as Linear
 use Rattle.linear.proofs.Sets.{in-and-out}
-use Rattle.note.specs.declared.Layout.{Layout}
-use Rattle.note.specs.Given.{Given}
+use Rattle.groups.specs.declared.Layout.{Layout}
+use Rattle.given.specs.Given.{Given}
 use Rattle.marks.specs.Marks.{marked, withoutMark, remove}
 use Rattle.marks.proofs.Bits.{marked-without, remove-same, remove-other}
 use Rattle.rows.specs.Rows.{blocks}

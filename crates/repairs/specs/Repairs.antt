@@ -4,7 +4,7 @@ use mathlib.Core.Path.{_≡_}
 use mathlib.Core.List.{List}
 use Prim.Native.Nat.{ℕ}
 use lib.ListN.{length}
-use Rattle.note.specs.declared.Layout.{Layout}
+use Rattle.groups.specs.declared.Layout.{Layout}
 use Rattle.calls.specs.Calls as Calls
 use Rattle.calls.specs.Calls.{by, naming, done, refused, repair, rebuild, Outcome}
 use Rattle.plan.specs.declared.Standing.{Standing}

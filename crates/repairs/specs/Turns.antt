@@ -4,8 +4,8 @@ use mathlib.Core.Bool.{Bool, true, false}
 use mathlib.Core.Path.{_≡_}
 use Prim.Native.Nat.{ℕ, _*_, _<_, _≤_}
 use lib.ListN.{length}
-use Rattle.note.specs.declared.Layout.{Layout}
-use Rattle.note.specs.Given.{Given}
+use Rattle.groups.specs.declared.Layout.{Layout}
+use Rattle.given.specs.Given.{Given}
 use Rattle.marks.specs.Marks.{marked}
 use Rattle.rows.specs.Rows.{blocks}
 use Rattle.calls.specs.Code.{HasPlan}

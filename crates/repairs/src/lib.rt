@@ -2,7 +2,7 @@
 mod turns;
 
 ghost use Rattle.repairs.specs.Repairs.{RepairsOne, RebuildsAll};
-use note::Layout;
+use groups::Layout;
 use plan::Answer;
 use plan::Standing;
 use shape::Stood;

@@ -8,9 +8,9 @@ use native.Mathlib.Numerals.{add-one}
 use lib.ListN.{length, getD, length-append}
 use Rattle.linear.specs.Sets.{tally}
 use Rattle.linear.proofs.Existence.{plan-few}
-use Rattle.note.specs.declared.Layout.{Layout}
-use Rattle.note.specs.Given.{Given}
-use Rattle.note.proofs.Facts.{given-proper}
+use Rattle.groups.specs.declared.Layout.{Layout}
+use Rattle.given.specs.Given.{Given}
+use Rattle.given.proofs.Facts.{given-proper}
 use Rattle.marks.specs.Marks.{marked}
 use Rattle.rows.specs.Rows.{blocks, row}
 use Rattle.rows.proofs.Parts.{row-byte}

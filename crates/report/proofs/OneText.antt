@@ -8,7 +8,7 @@ use lib.ListN.{length, take, drop}
 use Rattle.linear.proofs.Sets.{in-and-out}
 use Rattle.note.specs.Note.{Outcome, readNote}
 use Rattle.note.specs.Note.Outcome.{layout, refusal}
-use Rattle.note.specs.declared.Layout.{Layout}
+use Rattle.groups.specs.declared.Layout.{Layout}
 use Rattle.rows.specs.Rows.{blocks}
 use Rattle.plan.specs.declared.Standing.{Standing}
 use Rattle.plan.proofs.Verdicts.{plans-unique}

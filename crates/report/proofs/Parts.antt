@@ -9,7 +9,7 @@ use lib.Dec.{eqb, leb}
 use lib.ListN.{length, take, drop, drop-of-length-le}
 use lib.Seq.{take-all}
 use Rattle.note.specs.Note.{word, lengthAt}
-use Rattle.note.specs.Given.{Tells}
+use Rattle.given.specs.Given.{Tells}
 use Rattle.report.specs.Report.{noteSize, Whole}
 use Rattle.report.specs.Inner.{Parted}
 

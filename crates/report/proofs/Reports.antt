@@ -7,13 +7,13 @@ use native.Mathlib.Omega.{arith}
 use native.Mathlib.Nat.{zero-add}
 use lib.ListN.{length, getD, take, drop, length-append, length-drop}
 use lib.Seq.{take-all, sets-eq}
-use Rattle.note.specs.Note.{lengthAt, word, readNote, Outcome, reading}
+use Rattle.note.specs.Note.{Bytes, lengthAt, word, readNote, Outcome, reading}
 use Rattle.note.specs.Note.Outcome.{layout, refusal}
-use Rattle.note.specs.Given.{Bytes, Given}
-use Rattle.note.specs.declared.Layout.{Layout}
+use Rattle.given.specs.Given.{Given}
+use Rattle.groups.specs.declared.Layout.{Layout}
 use Rattle.note.specs.declared.Reading.{Reading}
 use Rattle.note.specs.declared.Answer.the-variants.{Accepted, Refused}
-use Rattle.note.proofs.RoundTrip.{accepted-told}
+use Rattle.given.proofs.RoundTrip.{accepted-told}
 use Rattle.linear.proofs.Sets.{in-and-out}
 use Rattle.marks.specs.Marks.{marked, noneFrom}
 use Rattle.marks.proofs.Bits.{none-from}

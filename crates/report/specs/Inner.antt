@@ -4,7 +4,7 @@ use mathlib.Core.List.{List, _++_}
 use Prim.Native.Nat.{ℕ, suc, _≤_}
 use lib.ListN.{length, take, drop}
 use Rattle.text.specs.Put.{Put}
-use Rattle.note.specs.declared.Layout.{Layout}
+use Rattle.groups.specs.declared.Layout.{Layout}
 use Rattle.plan.specs.declared.Standing.{Standing}
 use Rattle.report.specs.Report.{noteSize, Lines}
 

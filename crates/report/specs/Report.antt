@@ -8,7 +8,7 @@ use lib.ListN.{length, take, drop}
 use Rattle.note.specs.Note.{lengthAt, word, readNote}
 use Rattle.note.specs.Note as Note
 use Rattle.note.specs.Note.Outcome.{layout, refusal}
-use Rattle.note.specs.declared.Layout.{Layout}
+use Rattle.groups.specs.declared.Layout.{Layout}
 use Rattle.marks.specs.Marks.{marked}
 use Rattle.rows.specs.Rows.{blocks}
 use Rattle.plan.specs.declared.Standing.{Standing}

@@ -10,8 +10,8 @@ use lib.ListN.{length, getD, replicate, length-append, length-replicate}
 use lib.Seq.{ext-getD}
 use Rattle.linear.specs.Solved.{vec, Survivors}
 use Rattle.linear.specs.Greedy.{visited}
-use Rattle.note.specs.Given.{Given}
-use Rattle.note.specs.declared.Layout.{Layout}
+use Rattle.given.specs.Given.{Given}
+use Rattle.groups.specs.declared.Layout.{Layout}
 use Rattle.rows.specs.Rows.{blocks}
 use Rattle.rows.specs.Visits.{visits}
 use Rattle.rows.specs.Answers.{Matrix, Listed}

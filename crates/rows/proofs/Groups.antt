@@ -7,12 +7,12 @@ use native.Mathlib.Omega.{arith}
 use borrow.Author.Tests.{lt-ltb, le-ltb}
 use Rattle.field.specs.Field.{coef}
 use Rattle.linear.proofs.Sums.{put-same, put-other}
-use Rattle.note.specs.Note.{groupAt}
-use Rattle.note.specs.declared.Group.{Group}
-use Rattle.note.specs.Given.{Given}
-use Rattle.note.specs.Facts.{Proper}
-use Rattle.note.specs.declared.Layout.{Layout}
-use Rattle.note.proofs.Facts.{given-proper}
+use Rattle.groups.specs.Groups.{groupAt}
+use Rattle.groups.specs.declared.Group.{Group}
+use Rattle.given.specs.Given.{Given}
+use Rattle.given.specs.Facts.{Proper}
+use Rattle.groups.specs.declared.Layout.{Layout}
+use Rattle.given.proofs.Facts.{given-proper}
 use Rattle.rows.specs.Rows.{blocks, among, owns, homeBelow, home, inside, part, rowNumber, row}
 use Rattle.rows.specs.Visits.{holds, meetBelow, step}
 use Rattle.rows.specs.Inner.{ownsIn, rowIn, entryIn, Fit, Homed}

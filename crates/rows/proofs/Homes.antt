@@ -9,12 +9,12 @@ use native.Mathlib.Decide.{decLt, ℕ-discrete}
 use lib.ListN.{length, getD}
 use borrow.Author.Tests.{lt-ltb, le-ltb}
 use Rattle.linear.proofs.Sets.{in-and-out}
-use Rattle.note.specs.Note.{noGroup, groupAt}
-use Rattle.note.specs.Given.{Given}
-use Rattle.note.specs.Facts.{sumOf, datasBefore, redundantsBefore, rowsRound, Proper}
-use Rattle.note.specs.declared.Group.{Group}
-use Rattle.note.specs.declared.Layout.{Layout}
-use Rattle.note.proofs.Facts.{given-proper}
+use Rattle.groups.specs.Groups.{noGroup, groupAt}
+use Rattle.given.specs.Given.{Given}
+use Rattle.given.specs.Facts.{sumOf, datasBefore, redundantsBefore, rowsRound, Proper}
+use Rattle.groups.specs.declared.Group.{Group}
+use Rattle.groups.specs.declared.Layout.{Layout}
+use Rattle.given.proofs.Facts.{given-proper}
 use Rattle.rows.specs.Rows.{blocks, among, owns, homeBelow, home, rowNumber}
 use Rattle.rows.proofs.Ranges.{among-yes, among-in}
 

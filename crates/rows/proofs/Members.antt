@@ -7,11 +7,11 @@ use native.Mathlib.Omega.{arith}
 use native.Mathlib.Decide.{decLt}
 use Rattle.field.specs.Field.{_⊕_, coef}
 use Rattle.linear.specs.Sums.{sumTo, pick}
-use Rattle.note.specs.Note.{groupAt}
-use Rattle.note.specs.Given.{Given}
-use Rattle.note.specs.Facts.{datasBefore, Proper}
-use Rattle.note.specs.declared.Layout.{Layout}
-use Rattle.note.proofs.Facts.{given-proper}
+use Rattle.groups.specs.Groups.{groupAt}
+use Rattle.given.specs.Given.{Given}
+use Rattle.given.specs.Facts.{datasBefore, Proper}
+use Rattle.groups.specs.declared.Layout.{Layout}
+use Rattle.given.proofs.Facts.{given-proper}
 use Rattle.rows.specs.Rows.{among, inside, part}
 use Rattle.rows.specs.Split.{union, member, Members}
 use Rattle.rows.proofs.Ranges.{among-yes, among-in, among-under, among-over}

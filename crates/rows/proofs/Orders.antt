@@ -14,8 +14,8 @@ use Rattle.linear.specs.Solved.{vec}
 use Rattle.linear.specs.Greedy.{visited}
 use Rattle.linear.proofs.Sets.{in-and-out, count-none, count-cong}
 use Rattle.linear.proofs.Choice.{visited-at, visited-place}
-use Rattle.note.specs.Given.{Given}
-use Rattle.note.specs.declared.Layout.{Layout}
+use Rattle.given.specs.Given.{Given}
+use Rattle.groups.specs.declared.Layout.{Layout}
 use Rattle.rows.specs.Rows.{blocks}
 use Rattle.rows.specs.Visits.{step, listed, atStep, visitsBelow, visits}
 use Rattle.rows.specs.Orders.{Before}

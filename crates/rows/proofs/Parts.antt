@@ -13,11 +13,11 @@ use Rattle.linear.specs.Sums.{sumTo, pick, unit}
 use Rattle.linear.specs.Sets.{none}
 use Rattle.linear.proofs.Sums.{put-other, unit-byte}
 use Rattle.linear.proofs.Sets.{in-and-out}
-use Rattle.note.specs.Note.{groupAt}
-use Rattle.note.specs.Given.{Given}
-use Rattle.note.specs.Facts.{Proper}
-use Rattle.note.specs.declared.Layout.{Layout}
-use Rattle.note.proofs.Facts.{given-proper, apart-datas, holds-datas}
+use Rattle.groups.specs.Groups.{groupAt}
+use Rattle.given.specs.Given.{Given}
+use Rattle.given.specs.Facts.{Proper}
+use Rattle.groups.specs.declared.Layout.{Layout}
+use Rattle.given.proofs.Facts.{given-proper, apart-datas, holds-datas}
 use Rattle.rows.specs.Rows.{blocks, among, home, inside, part, rowNumber, row}
 use Rattle.rows.specs.Visits.{holds}
 use Rattle.rows.specs.Split.{Disjoint, union, unions, Apart}

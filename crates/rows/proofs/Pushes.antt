@@ -10,7 +10,7 @@ use native.Mathlib.Decide.{decLt}
 use lib.ListN.{length, set, replicate, length-append, length-set}
 use lib.Dec.{eqb}
 use Rattle.linear.specs.Solved.{vec}
-use Rattle.note.specs.declared.Layout.{Layout}
+use Rattle.groups.specs.declared.Layout.{Layout}
 use Rattle.rows.specs.Rows.{blocks}
 use Rattle.rows.specs.Visits.{listed, atStep, visitsBelow, visits}
 use Rattle.rows.specs.Answers.{Listed}

@@ -6,11 +6,11 @@ use Prim.Native.Nat.{ℕ, zero, suc, _<_, _≤_}
 use native.Mathlib.Omega.{arith}
 use native.Mathlib.Decide.{ℕ-discrete}
 use Rattle.linear.proofs.Sets.{in-and-out}
-use Rattle.note.specs.Note.{groupAt}
-use Rattle.note.specs.Given.{Given}
-use Rattle.note.specs.Facts.{Holds, Proper}
-use Rattle.note.specs.declared.Layout.{Layout}
-use Rattle.note.proofs.Facts.{given-proper, holds-itself, holds-trans, holds-chain}
+use Rattle.groups.specs.Groups.{groupAt}
+use Rattle.given.specs.Given.{Given}
+use Rattle.given.specs.Facts.{Holds, Proper}
+use Rattle.groups.specs.declared.Layout.{Layout}
+use Rattle.given.proofs.Facts.{given-proper, holds-itself, holds-trans, holds-chain}
 use Rattle.rows.specs.Rows.{home}
 use Rattle.rows.specs.Visits.{holds, meetBelow, step}
 use Rattle.rows.proofs.Ranges.{both-true, among-yes, among-in}

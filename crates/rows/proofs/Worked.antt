@@ -10,10 +10,10 @@ use lib.ListN.{getD}
 use Rattle.field.specs.Field.{_⊕_, double, mulBits, mul, power, inv, coef}
 use Rattle.field.proofs.Table.{both, both-left, both-right}
 use Rattle.linear.specs.Sums.{put}
-use Rattle.note.specs.declared.Layout.{Layout}
+use Rattle.groups.specs.declared.Layout.{Layout}
 use Rattle.note.specs.Note.{readNote}
 use Rattle.note.specs.Note.Outcome.{layout}
-use Rattle.note.specs.Given.{Given}
+use Rattle.given.specs.Given.{Given}
 use Rattle.note.specs.Worked.{sample}
 use Rattle.note.proofs.Worked.{sample-read}
 use Rattle.note.specs.Tree.{leaf, branch, pair, over, overIn, notesIn, datas, datasIn, redundants, redundantsIn, size, sizeIn, groupsOf, groupsIn, layoutOf}

@@ -5,7 +5,7 @@ use mathlib.Core.Path.{_≡_}
 use Prim.Native.Nat.{ℕ, _-_, _<_}
 use lib.ListN.{length, replicate}
 use Rattle.linear.specs.Solved.{rowOf}
-use Rattle.note.specs.declared.Layout.{Layout}
+use Rattle.groups.specs.declared.Layout.{Layout}
 use Rattle.rows.specs.Rows.{row}
 use Rattle.rows.specs.declared.Visits.{Visits}
 

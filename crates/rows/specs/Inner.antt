@@ -7,8 +7,8 @@ use Prim.Native.Nat.{ℕ, zero, suc, _+_, _-_, _<_, _≤_}
 use lib.Dec.{eqb, ltb}
 use lib.ListN.{length, getD, set}
 use Rattle.linear.specs.Sums.{pick, unit}
-use Rattle.note.specs.declared.Group.{Group}
-use Rattle.note.specs.declared.Layout.{Layout}
+use Rattle.groups.specs.declared.Group.{Group}
+use Rattle.groups.specs.declared.Layout.{Layout}
 use Rattle.rows.specs.Rows.{among, either, part}
 use Rattle.rows.specs.Visits.{step, listed}
 use Rattle.rows.specs.Answers.{Listed}

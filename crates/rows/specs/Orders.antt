@@ -2,7 +2,7 @@
 use mathlib.Core.Path.{_≡_}
 use mathlib.Core.Bool.{true}
 use Prim.Native.Nat.{ℕ, _<_}
-use Rattle.note.specs.declared.Layout.{Layout}
+use Rattle.groups.specs.declared.Layout.{Layout}
 use Rattle.rows.specs.Visits.{holds, step}
 
 -- the walk of block b comes to s before t: "by the innermost group of this walk that holds their home", which for t holds the one for s; "inside

@@ -5,8 +5,8 @@ use Prim.Native.Nat.{ℕ, zero, suc, _+_, _-_}
 use lib.Dec.{ltb, leb}
 use Rattle.field.specs.Field.{coef}
 use Rattle.linear.specs.Sums.{pick, unit}
-use Rattle.note.specs.Note.{groupAt}
-use Rattle.note.specs.declared.Layout.{Layout}
+use Rattle.groups.specs.Groups.{groupAt}
+use Rattle.groups.specs.declared.Layout.{Layout}
 
 -- "Data blocks are numbered from 0 in note order, k in all. Redundant blocks follow, from k to n - 1."
 abbrev pub blocks : Layout → ℕ

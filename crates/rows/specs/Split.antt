@@ -5,8 +5,8 @@ use mathlib.Core.Path.{_≡_}
 use mathlib.Core.Bool.{Bool, true, false, _||_}
 use Prim.Native.Nat.{ℕ, zero, suc, _+_, _<_}
 use Rattle.linear.specs.Sets.{none}
-use Rattle.note.specs.Note.{groupAt}
-use Rattle.note.specs.declared.Layout.{Layout}
+use Rattle.groups.specs.Groups.{groupAt}
+use Rattle.groups.specs.declared.Layout.{Layout}
 use Rattle.rows.specs.Visits.{holds}
 
 -- what is in S is not in T

@@ -6,8 +6,8 @@ use mathlib.Core.List.{List, [], _∷_, _++_}
 use Prim.Native.Nat.{ℕ, zero, suc}
 use lib.Dec.{eqb}
 use Rattle.linear.specs.Sums.{pick}
-use Rattle.note.specs.Note.{groupAt}
-use Rattle.note.specs.declared.Layout.{Layout}
+use Rattle.groups.specs.Groups.{groupAt}
+use Rattle.groups.specs.declared.Layout.{Layout}
 use Rattle.rows.specs.Rows.{blocks, among, home}
 
 -- group g holds group x, itself or nested: a group's subtree stands right behind its header

@@ -5,14 +5,14 @@ ghost use Prim.Native.Nat.{_+_, _*_, _≤_, _<_};
 ghost use lib.Dec.{eqb};
 ghost use lib.ListN.{length};
 ghost use Rattle.linear.specs.Solved.{vec};
-ghost use Rattle.note.specs.Given.{Given};
+ghost use Rattle.given.specs.Given.{Given};
 ghost use Rattle.marks.specs.Marks.{marked};
 ghost use Rattle.rows.specs.Rows.{blocks, among, home, row};
 ghost use Rattle.rows.specs.Visits.{meetBelow, step, visits};
 ghost use Rattle.rows.specs.Answers.{Matrix, Listed};
 ghost use Rattle.rows.specs.Inner.{ownsIn, rowIn, entryIn, Fit, Homed, Written, Steps, chosen, gathered, pushed, Extended};
-use note::Group;
-use note::Layout;
+use groups::Group;
+use groups::Layout;
 
 // Blocks in the order in which they are visited: the first `count` entries. Behind them stand zeros.
 pub struct Visits {

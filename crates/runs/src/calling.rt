@@ -2,7 +2,7 @@
 use crate::lines;
 use crate::lines::index;
 use crate::show;
-use note::Layout;
+use groups::Layout;
 use plan::Standing;
 use shape::Stood;
 

@@ -25,8 +25,8 @@ ghost use mathlib.Core.Path.{_≡_};
 ghost use Prim.Native.Nat.{_≤_};
 ghost use lib.ListN.{length};
 ghost use Rattle.runs.specs.Room.{Room, Same};
+use groups::Layout;
 use libc::STDIN_FILENO;
-use note::Layout;
 use plan::Standing;
 
 // What is kept from line to line, with the number of bytes that are in use of the buffer for the stripe and of that for the spare.

@@ -3,7 +3,7 @@ ghost use mathlib.Core.Path.{_≡_};
 ghost use Prim.Native.Nat.{_≤_, _<_};
 ghost use lib.ListN.{length};
 use crate::show;
-use note::Layout;
+use groups::Layout;
 use plan::Standing;
 use repairs::Rebuilding;
 use repairs::Rebuilt;
@@ -159,7 +159,7 @@ fn counted(l: Layout, n: usize)
 
 pub fn count(l: Layout) {
     let n = show::total(l.k, l.r);
-    if note::known(l) {
+    if given::known(l) {
         if n <= 12 {
             counted(l, n);
             return;

@@ -1,8 +1,8 @@
 -- Inside: what the function that asks 6 and 7 answers, as a number, and what a refusal gives back. No public contract names what stands here.
 use mathlib.Core.List.{[], _∷_}
 use Prim.Native.Nat.{ℕ}
-use Rattle.note.specs.declared.Layout.{Layout}
-use Rattle.note.specs.Given.{Given}
+use Rattle.groups.specs.declared.Layout.{Layout}
+use Rattle.given.specs.Given.{Given}
 use Rattle.calls.specs.Calls.{First, _unless_, by}
 use Rattle.plan.specs.declared.Standing.{Standing}
 use Rattle.plan.specs.declared.Answer.the-variants.{Refused}

@@ -3,7 +3,7 @@ ghost use mathlib.Core.Path.{_≡_};
 ghost use Rattle.plan.specs.Front.{FrontSays};
 ghost use Rattle.shape.specs.Front.{refusal, ShapeSays};
 ghost use Rattle.shape.specs.Shapes.{Sized};
-use note::Layout;
+use groups::Layout;
 use plan::Answer;
 use plan::Standing;
 
@@ -27,7 +27,7 @@ pub fn refuse(st: Standing, number: u8) -> Stood
 pub fn shape(l: Layout, len: usize, size: usize) -> u8
     ensures { λ r. ⌜ ShapeSays l (Sized l len size) r ⌝ }
 {
-    if !note::known(l) {
+    if !given::known(l) {
         return 6;
     }
     if len < 1 {

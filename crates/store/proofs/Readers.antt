@@ -4,10 +4,11 @@ use mathlib.Core.Path.{_≡_, refl, sym, ap, _∙_}
 use mathlib.Core.List.{List}
 use native.Mathlib.Omega.{arith}
 use lib.ListN.{length}
-use Rattle.note.specs.declared.Layout.{Layout}
-use Rattle.note.specs.declared.reader.Walk.{Walk}
-use Rattle.note.specs.Note.{blank, groupRead, finish, readNote}
-use Rattle.note.proofs.Picks.{lt-no}
+use Rattle.groups.specs.declared.Layout.{Layout}
+use Rattle.groups.specs.declared.Walk.{Walk}
+use Rattle.groups.specs.Groups.{blank}
+use Rattle.note.specs.Note.{groupRead, finish, readNote}
+use Rattle.groups.proofs.Picks.{lt-no}
 use Rattle.store.specs.Reader.{groupFrom}
 
 -- the group read at a place that is not past the end

@@ -4,8 +4,9 @@ use Prim.Native.Nat.{ℕ}
 use mathlib.Core.List.{List}
 use lib.ListN.{length}
 use denote.Ref.{RefT, now}
-use Rattle.note.specs.declared.reader.Walk.{Walk}
-use Rattle.note.specs.Note.{ifLt, blank, refusedAt, groupRead}
+use Rattle.groups.specs.declared.Walk.{Walk}
+use Rattle.groups.specs.Groups.{ifLt, blank, refusedAt}
+use Rattle.note.specs.Note.{groupRead}
 use Rattle.store.specs.declared.reader.Reader.{Reader}
 
 -- the walk at the place `at`, with nothing read

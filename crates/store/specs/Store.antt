@@ -4,7 +4,7 @@ use mathlib.Core.Path.{_≡_}
 use mathlib.Core.List.{List}
 use Prim.Native.Nat.{ℕ}
 use denote.Ref.{RefT}
-use Rattle.note.specs.declared.Layout.{Layout}
+use Rattle.groups.specs.declared.Layout.{Layout}
 use Rattle.note.specs.declared.Reading.{Reading}
 use Rattle.note.specs.Note.{readNote, reading}
 use Rattle.plan.specs.declared.Standing.{Standing}

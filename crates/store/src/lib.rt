@@ -6,7 +6,7 @@ ghost use Rattle.note.specs.Note.{reading};
 ghost use Rattle.note.specs.Note.Outcome.{refusal};
 ghost use Rattle.store.specs.Answers.{spoken, named};
 ghost use Rattle.store.specs.Store.{Read, Encode, Lose, Plan, Repair, Rebuild, Correct, Fetch, View, Price};
-use note::Layout;
+use groups::Layout;
 use note::Reading;
 use plan::Answer;
 use plan::Planned;
@@ -197,7 +197,7 @@ pub fn price(l: Layout, limits: Limits) -> price::Price
 fn refused(number: u8, offset: usize) -> Reading
     ensures { λ r. ⌜ r ≡ reading (refusal number offset) ⌝ }
 {
-    let none = note::reader::empty();
+    let none = groups::empty();
     Reading {
         answer: note::Answer::Refused {
             number: number,

@@ -1,5 +1,5 @@
 // The reader of a note: it is started, reads the group at its place, any place, and is moved behind it.
-use note::reader::Walk;
+use groups::Walk;
 ghost use mathlib.Core.Path.{_≡_};
 ghost use Rattle.store.specs.Reader.{groupFrom, started, groupHere, pastGroup};
 
@@ -13,7 +13,7 @@ pub struct Reader<'a> {
 fn group_at(note: &[u8], at: usize) -> Walk
     ensures { λ w. ⌜ w ≡ groupFrom (now (note .entry)) at ⌝ }
 {
-    let none = note::reader::empty();
+    let none = groups::empty();
     let mut w = Walk {
         lay: none,
         at: at,

@@ -7,9 +7,9 @@ use Prim.Native.Nat.{ℕ, _<_, _≤_}
 use native.Mathlib.Omega.{arith}
 use lib.ListN.{length}
 use Rattle.linear.proofs.Sets.{in-and-out, insert-same, insert-other}
-use Rattle.note.specs.declared.Layout.{Layout}
-use Rattle.note.specs.Given.{Given}
-use Rattle.note.proofs.Facts.{given-proper}
+use Rattle.groups.specs.declared.Layout.{Layout}
+use Rattle.given.specs.Given.{Given}
+use Rattle.given.proofs.Facts.{given-proper}
 use Rattle.marks.specs.Marks.{marked, withMark}
 use Rattle.marks.proofs.Bits.{marked-with, marked-zero}
 use Rattle.rows.specs.Rows.{blocks}

@@ -6,8 +6,8 @@ use mathlib.Core.Bool.{true, false, cond}
 use Prim.Native.Nat.{ℕ, zero, suc, _+_, _*_}
 use denote.Ref.{RefT, now}
 use lib.ListN.{length, take, drop}
-use Rattle.note.specs.declared.Layout.{Layout}
-use Rattle.note.specs.Given.{Given}
+use Rattle.groups.specs.declared.Layout.{Layout}
+use Rattle.given.specs.Given.{Given}
 use Rattle.marks.specs.Marks.{marked}
 use Rattle.calls.specs.Calls as Calls
 use Rattle.calls.specs.Calls.{_unless_, by, done, refused, encode, lose, correct, fetch, Verdict, Outcome, Fetch}

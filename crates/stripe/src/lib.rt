@@ -1,8 +1,8 @@
 // The calls on a stripe but those that repair it, with its standing by value. A stripe holds its blocks one after another: block b from b * len on.
 ghost use Prim.Native.Nat.{_+_, _≤_};
-ghost use Rattle.note.specs.Given.{Tells};
+ghost use Rattle.given.specs.Given.{Tells};
 ghost use Rattle.stripe.specs.Stripes.{Encodes, Loses, Corrects, Fetches, Placed, Views};
-use note::Layout;
+use groups::Layout;
 use plan::Answer;
 use plan::Standing;
 use shape::Stood;

@@ -10,10 +10,10 @@
 ghost use mathlib.Core.Path.{_≡_};
 ghost use Prim.Native.Nat.{_≤_, _<_};
 ghost use lib.ListN.{length};
-ghost use Rattle.note.specs.Given.{Given};
+ghost use Rattle.given.specs.Given.{Given};
+use groups::Layout;
 use libc::STDIN_FILENO;
 use libc::STDOUT_FILENO;
-use note::Layout;
 use plan::Answer;
 use plan::Standing;
 use price::Limits;
@@ -143,7 +143,7 @@ fn ask_row(line: &[u8], l: Layout) {
     let mut space = [0u8; 128];
     parse(line, &mut space);
     let b = space[0];
-    if note::known(l) {
+    if given::known(l) {
         show_block(l, b);
     }
 }
@@ -152,7 +152,7 @@ fn ask_home(line: &[u8], l: Layout) {
     let mut space = [0u8; 128];
     parse(line, &mut space);
     let b = space[0];
-    if note::known(l) {
+    if given::known(l) {
         let g = rows::home_of(l, index(b));
         number(b"home ", wide(b));
         number(b" group ", g as u64);
@@ -191,7 +191,7 @@ fn ask_visits(line: &[u8], l: Layout) {
     parse(line, &mut space);
     let b = space[0];
     let lost = word(&space);
-    if note::known(l) {
+    if given::known(l) {
         let v = rows::visit(l, lost, index(b));
         let count = v.count;
         let blocks = v.blocks;

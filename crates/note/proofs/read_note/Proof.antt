@@ -3,7 +3,7 @@ use mathlib.Core.Path.{refl, _∙_, ap}
 use native.Mathlib.Omega.{arith}
 use borrow.Author.Needs.{needs}
 use Rattle.note.specs.Note.{reading}
-use Rattle.note.proofs.Picks.{lt-yes, lt-no, eq-yes, eq-no}
+use Rattle.groups.proofs.Picks.{lt-yes, lt-no, eq-yes, eq-no}
 use Rattle.note.proofs.Steps.{note-is}
 use Rattle.note.proofs.read_note.Statement.{statement}
 use Rattle.note.proofs.read_note.Tie as tie

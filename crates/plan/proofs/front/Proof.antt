@@ -2,8 +2,8 @@
 use mathlib.Core.Path.{_∙_, sym}
 use native.Mathlib.Omega.{arith}
 use borrow.Author.Needs.{needs}
-use Rattle.note.specs.Given.{Given}
-use Rattle.note.proofs.Facts.{given-proper}
+use Rattle.given.specs.Given.{Given}
+use Rattle.given.proofs.Facts.{given-proper}
 use Rattle.plan.specs.Codes.{InRange}
 use Rattle.plan.proofs.Verdicts.{told-yes, told-no, not-yes, not-no}
 use Rattle.plan.proofs.Fronts.{front-6, front-7, front-8, front-0}

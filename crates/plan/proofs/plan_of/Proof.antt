@@ -2,7 +2,7 @@
 use mathlib.Core.Path.{_∙_, sym}
 use native.Mathlib.Omega.{arith}
 use borrow.Author.Needs.{needs}
-use Rattle.note.proofs.Facts.{given-proper}
+use Rattle.given.proofs.Facts.{given-proper}
 use Rattle.plan.proofs.Fronts.{says-sound}
 use Rattle.plan.proofs.Verdicts.{not-yes, not-no, plans-front, plans-9, plans-10, plans-14, plans-done, reads-few}
 use Rattle.plan.proofs.plan_of.Statement.{statement}

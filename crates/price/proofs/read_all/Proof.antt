@@ -3,7 +3,7 @@ use mathlib.Core.Path.{_≡_, refl, subst}
 use Prim.Native.Nat.{ℕ, _*_, _-_, _≤_}
 use native.Mathlib.Omega.{arith}
 use Rattle.linear.proofs.Sets.{in-and-out}
-use Rattle.note.proofs.Facts.{given-proper}
+use Rattle.given.proofs.Facts.{given-proper}
 use Rattle.plan.proofs.Verdicts.{not-yes, not-no}
 use Rattle.price.specs.Sheet.{Reads, none}
 use Rattle.price.proofs.Totals.{reads-more}

@@ -1,7 +1,7 @@
 -- Proved: `read_alone` meets its contract: the plan is asked for with the mark of block i alone.
 use native.Mathlib.Omega.{arith}
 use borrow.Author.Needs.{needs}
-use Rattle.note.proofs.Facts.{given-proper}
+use Rattle.given.proofs.Facts.{given-proper}
 use Rattle.plan.proofs.Verdicts.{not-yes, not-no}
 use Rattle.price.proofs.Totals.{alone-none, alone-found}
 use Rattle.price.proofs.read_alone.Statement.{statement}

@@ -4,7 +4,7 @@ use native.Mathlib.Omega.{arith}
 use Rattle.rows.specs.Rows.{blocks}
 use Rattle.report.specs.Report.{Whole}
 use borrow.Author.Tests.{not-true, not-false}
-use Rattle.note.proofs.Facts.{given-proper}
+use Rattle.given.proofs.Facts.{given-proper}
 use Rattle.plan.proofs.Verdicts.{told-yes, told-no}
 use Rattle.text.proofs.Puts.{put-length}
 use Rattle.report.proofs.Reports.{refused-room, layout-short, written-unmet, follow-stray, follow-listed}

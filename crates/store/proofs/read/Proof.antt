@@ -2,7 +2,7 @@
 use mathlib.Core.Path.{refl, _∙_, ap}
 use borrow.Author.Needs.{needs}
 use Rattle.note.specs.Note.{reading}
-use Rattle.note.proofs.Picks.{lt-yes, lt-no, eq-yes, eq-no}
+use Rattle.groups.proofs.Picks.{lt-yes, lt-no, eq-yes, eq-no}
 use Rattle.store.proofs.Readers.{note-is}
 use Rattle.store.proofs.read.Statement.{statement}
 use Rattle.store.proofs.read.Tie as tie

@@ -3,7 +3,7 @@
 use mathlib.Core.Path.{_∙_, sym}
 use native.Mathlib.Omega.{arith}
 use borrow.Author.Needs.{needs}
-use Rattle.note.proofs.Facts.{given-proper}
+use Rattle.given.proofs.Facts.{given-proper}
 use Rattle.plan.proofs.Fronts.{says-sound}
 use Rattle.plan.proofs.Verdicts.{told-yes, told-no}
 use Rattle.stripe.proofs.Tops.{corrects-front, corrects-9, corrects-11, corrects-12, correct-able, corrects-done}

@@ -2,7 +2,7 @@
 use mathlib.Core.Path.{sym, _∙_}
 use native.Mathlib.Omega.{arith}
 use borrow.Author.Needs.{needs}
-use Rattle.note.proofs.Facts.{given-proper}
+use Rattle.given.proofs.Facts.{given-proper}
 use Rattle.plan.proofs.Verdicts.{not-yes, not-no}
 use Rattle.plan.proofs.Fronts.{says-sound}
 use Rattle.stripe.proofs.Tops.{fetch-front, fetch-9, fetch-13, fetch-present, fetch-14, fetch-planned}

@@ -15,11 +15,11 @@ use Rattle.note.proofs.reader.+read_group+read_members.Lts-read_group a
 use Rattle.note.proofs.reader.read_members.Reads as read-members
 use Rattle.note.proofs.reader.read_members.Kinds as read-members-kinds
 use Rattle.note.proofs.reader.+read_group+read_members.Lts-read_members as read-members-lts
-use Rattle.note.proofs.reader.close.Reads as close-reads
-use Rattle.note.proofs.reader.enter.Reads as enter-reads
+use Rattle.groups.proofs.close.Reads as close-reads
+use Rattle.groups.proofs.enter.Reads as enter-reads
 use Rattle.note.proofs.reader.read_head.Reads as read-head-reads
-use Rattle.note.proofs.reader.refuse.Reads as refuse-reads
-use Rattle.note.proofs.reader.wide.Reads as wide-reads
+use Rattle.groups.proofs.refuse.Reads as refuse-reads
+use Rattle.groups.proofs.wide.Reads as wide-reads
 use Rattle.note.proofs.reader.+read_group+read_members.{statement}
 use Rattle.note.proofs.reader.+read_group+read_members.Tie.{close}
 

@@ -1,9 +1,8 @@
--- Proved: `read_head` meets its contract: its tests, in the order of the definition.
+-- Proved: `read_head` meets its contract: fewer than 4 bytes, or the record whose length and kind it reads.
 use mathlib.Core.Path.{refl}
-use native.Mathlib.Omega.{arith}
 use borrow.Author.Needs.{needs}
-use Rattle.note.specs.Note.{branchAt, headAt}
-use Rattle.note.proofs.Picks.{lt-yes, lt-no, eq-yes, eq-no}
+use Rattle.note.specs.Note.{headAt}
+use Rattle.groups.proofs.Picks.{lt-yes, lt-no}
 use Rattle.note.proofs.reader.read_head.Statement.{statement}
 use Rattle.note.proofs.reader.read_head.Tie as tie
 
@@ -12,7 +11,7 @@ sub-left c = search needs
 
 returns : tie.Need-returns
 unfolding headAt
-returns c = lt-yes _ (omega arith) refl
+returns c = lt-yes _ (c .if1 .taken) refl
 
 shared-slice-read-word : tie.Need-shared-slice-read-word
 shared-slice-read-word c = search needs
@@ -44,42 +43,15 @@ word-requires-2 c κs = search needs
 sub-room : tie.Need-sub-room
 sub-room c = search needs
 
+read-record-requires : tie.Need-read-record-requires
+read-record-requires c κs = search needs
+
 returns-2 : tie.Need-returns-2
 unfolding headAt
-returns-2 c = lt-no _ (omega arith) (lt-yes _ (omega arith) refl)
-
-returns-3 : tie.Need-returns-3
-unfolding headAt
-returns-3 c = lt-no _ (omega arith) (lt-no _ (omega arith) (lt-yes _ (omega arith) refl))
-
-returns-4 : tie.Need-returns-4
-unfolding headAt
-returns-4 c = lt-no _ (omega arith) (lt-no _ (omega arith) (lt-no _ (omega arith) (eq-no _ (omega arith) (eq-no _ (omega arith) refl))))
-
-returns-5 : tie.Need-returns-5
-unfolding headAt
-returns-5 c = lt-no _ (omega arith) (lt-no _ (omega arith) (lt-no _ (omega arith) (eq-no _ (omega arith) (eq-no _ (omega arith) refl))))
-
-read-leaf-requires : tie.Need-read-leaf-requires
-read-leaf-requires c κs = search needs
-
-returns-6 : tie.Need-returns-6
-unfolding headAt
-returns-6 c = lt-no _ (omega arith) (lt-no _ (omega arith) (lt-no _ (omega arith) (eq-yes _ (omega arith) (cc))))
-
-returns-7 : tie.Need-returns-7
-unfolding headAt branchAt
-returns-7 c = lt-no _ (omega arith) (lt-no _ (omega arith) (lt-no _ (omega arith) (eq-no _ (omega arith) (eq-yes _ (omega arith) (lt-yes _ (omega arith) refl)))))
-
-add-t11 : tie.Need-add-t11
-add-t11 c = search needs
-
-shared-slice-read-t13 : tie.Need-shared-slice-read-t13
-shared-slice-read-t13 c = search needs
-
-returns-8 : tie.Need-returns-8
-unfolding headAt branchAt
-returns-8 c = lt-no _ (omega arith) (lt-no _ (omega arith) (lt-no _ (omega arith) (eq-no _ (omega arith) (eq-yes _ (omega arith) (lt-no _ (omega arith) (cc))))))
+returns-2 c =
+    let two = c .before in
+    let one = two .before .before .before in
+    lt-no _ (one .before .before .before .if1 .left) (rw (one .word .ensures, two .word2 .ensures) at (c .read-record .ensures))
 
 pub read-head-spec : {M : Type 1} → statement M
 read-head-spec =
@@ -97,13 +69,5 @@ read-head-spec =
     shared-slice-read-word-4
     word-requires-2
     sub-room
-    returns-2
-    returns-3
-    returns-4
-    returns-5
-    read-leaf-requires
-    returns-6
-    returns-7
-    add-t11
-    shared-slice-read-t13
-    returns-8)
+    read-record-requires
+    returns-2)

@@ -3,7 +3,7 @@ use mathlib.Core.Path.{refl}
 use native.Mathlib.Omega.{arith}
 use borrow.Author.Needs.{needs}
 use Rattle.note.specs.Note.{leafAt}
-use Rattle.note.proofs.Picks.{eq-yes, eq-no}
+use Rattle.groups.proofs.Picks.{eq-yes, eq-no}
 use Rattle.note.proofs.reader.read_leaf.Statement.{statement}
 use Rattle.note.proofs.reader.read_leaf.Tie as tie
 

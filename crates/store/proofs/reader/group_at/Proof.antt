@@ -2,7 +2,7 @@
 use mathlib.Core.Path.{refl}
 use native.Mathlib.Omega.{arith}
 use borrow.Author.Needs.{needs}
-use Rattle.note.proofs.Picks.{lt-yes}
+use Rattle.groups.proofs.Picks.{lt-yes}
 use Rattle.store.specs.Reader.{groupFrom}
 use Rattle.store.proofs.Readers.{from-is}
 use Rattle.store.proofs.reader.group_at.Statement.{statement}

@@ -1,7 +1,7 @@
 -- Proved: `reached` meets its contract: the place of the walk that reading the group gives.
 use mathlib.Core.Path.{ap}
 use borrow.Author.Needs.{needs}
-use Rattle.note.specs.declared.reader.Walk.{Walk}
+use Rattle.groups.specs.declared.Walk.{Walk}
 use Rattle.store.proofs.reader.reached.Statement.{statement}
 use Rattle.store.proofs.reader.reached.Tie as tie
 
