@@ -27,11 +27,13 @@ use Rattle.plan.specs.Inner.{Coefficients}
 use Rattle.plan.proofs.Codes.{code-proper}
 use Rattle.plan.specs.Front.{FrontSays}
 use Rattle.stripe.specs.Front.{refusal}
-use Rattle.pieces.specs.Pieces.{Sources, Gathered, Others, Made, Correctable, CorrectedList}
+use Rattle.pieces.specs.Pieces.{Sources, Gathered, Others, Made}
+use Rattle.corrections.specs.Corrections.{Correctable, CorrectedList}
 use Rattle.stripe.specs.Stripes.{Sized, RepairsOne, Corrects, Fetches}
 use Rattle.plan.proofs.Fronts.{Sound, front-refused}
 use Rattle.pieces.proofs.Combining.{sources}
-use Rattle.pieces.proofs.Effects.{Planned, corrected, by-plan, repaired, plan-others}
+use Rattle.pieces.proofs.Effects.{Planned, by-plan, repaired, plan-others}
+use Rattle.corrections.proofs.Effects.{corrected}
 use Rattle.stripe.proofs.Answers.{layout-renders}
 
 -- ---- plans

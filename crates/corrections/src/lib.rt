@@ -1,7 +1,7 @@
-// Corrections: a difference laid into a data block, and its multiples into the redundant blocks.
+// Corrections: a difference laid into a data block, and its multiples into the redundant blocks. Nothing here knows of a call.
 ghost use Prim.Native.Nat.{_+_, _<_, _≤_};
 ghost use lib.ListN.{length};
-ghost use Rattle.pieces.specs.Pieces.{Laid, Correctable, Touched, Spread, CorrectedList};
+ghost use Rattle.corrections.specs.Corrections.{Laid, Correctable, Touched, Spread, CorrectedList};
 
 // Adds c times the difference, from position `at` on.
 pub fn lay(stripe: &mut [u8], at: usize, diff: &[u8], c: u8)

@@ -10,7 +10,8 @@ use borrow.Rule.Slice.PartMut.{putMid}
 use lib.ListN.{length, getD, take, drop, length-take, length-drop, List·getD-eq-default}
 use Rattle.field.specs.Field.{_⊕_, mul}
 use Rattle.field.specs.Scaled.{scaledAdd}
-use Rattle.field.proofs.Product.{mul-one-l}
+use Rattle.field.proofs.Xor.{⊕-zero-r}
+use Rattle.field.proofs.Product.{mul-one-l, mul-zero-r}
 use Rattle.field.proofs.Scaled.{scaled-length, scaled-at}
 use Rattle.linear.specs.Solved.{vec, rowOf}
 use Rattle.linear.proofs.Sets.{in-and-out}
@@ -18,10 +19,15 @@ use Rattle.linear.proofs.Vectors.{getD-part, put-length, put-before, put-within
 use Rattle.marks.specs.Marks.{marked}
 use Rattle.calls.specs.Calls.{laid}
 use Rattle.calls.proofs.Encodings.{laid-small}
-use Rattle.pieces.specs.Pieces.{byteOf, Laid, Correctable, Touched, Spread, CorrectedList}
-use Rattle.pieces.proofs.Blocks.{under, add-zero-times, add-times-zero}
+use Rattle.pieces.specs.Pieces.{byteOf}
+use Rattle.pieces.proofs.Blocks.{under, add-zero-times}
+use Rattle.corrections.specs.Corrections.{Laid, Correctable, Touched, Spread, CorrectedList}
 
 -- ---- a difference among zeros
+
+-- f times nothing is added
+add-times-zero : (y f z : ℕ) → z ≡ 0 → y ⊕ mul f z ≡ y
+add-times-zero y f z e = ap (λ (x : ℕ). y ⊕ mul f x) e ∙ ap (λ (x : ℕ). y ⊕ x) (mul-zero-r f) ∙ ⊕-zero-r y
 
 laid-before : (off : ℕ) (d : List ℕ) (x : ℕ) → x < off → laid off d x ≡ 0
 unfolding laid

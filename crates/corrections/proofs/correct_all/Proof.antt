@@ -3,10 +3,10 @@ use Prim.Native.Nat.{_+_, _*_, _≤_}
 use native.Mathlib.Omega.{arith}
 use lib.ListN.{length}
 use borrow.Author.Needs.{needs}
 use Rattle.pieces.proofs.Blocks.{under}
-use Rattle.pieces.proofs.Laying.{correctable-same, corrected-list}
-use Rattle.pieces.proofs.correcting.correct_all.Statement.{statement}
-use Rattle.pieces.proofs.correcting.correct_all.Tie as tie
+use Rattle.corrections.proofs.Laying.{correctable-same, corrected-list}
+use Rattle.corrections.proofs.correct_all.Statement.{statement}
+use Rattle.corrections.proofs.correct_all.Tie as tie
 
 -- block i stands in the stripe
 block-inside : (start : tie.Start) → start .args .i * start .args .len + start .args .len ≤ length (start .args .stripe .now)

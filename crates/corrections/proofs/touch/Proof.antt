@@ -4,10 +4,10 @@ use Prim.Native.Nat.{_+_, _*_, _≤_}
 use native.Mathlib.Omega.{arith}
 use lib.ListN.{length}
 use borrow.Author.Needs.{needs}
 use Rattle.pieces.proofs.Blocks.{under}
-use Rattle.pieces.proofs.Laying.{touched-lost, touched-none, touched-laid}
-use Rattle.pieces.proofs.correcting.touch.Statement.{statement}
-use Rattle.pieces.proofs.correcting.touch.Tie as tie
+use Rattle.corrections.proofs.Laying.{touched-lost, touched-none, touched-laid}
+use Rattle.corrections.proofs.touch.Statement.{statement}
+use Rattle.corrections.proofs.touch.Tie as tie
 
 -- block b stands in the stripe
 block-inside : (start : tie.Start) → start .args .b * start .args .len + start .args .len ≤ length (start .args .stripe .now)

@@ -3,10 +3,10 @@ use mathlib.Core.Path.{_≡_}
 use Prim.Native.Nat.{_≤_, _-_}
 use native.Mathlib.Omega.{arith}
 use borrow.Author.Needs.{needs}
-use Rattle.pieces.specs.Pieces.{Spread}
-use Rattle.pieces.proofs.Laying.{correctable-same, spread-none, spread-more}
-use Rattle.pieces.proofs.correcting.spread.Statement.{statement}
-use Rattle.pieces.proofs.correcting.spread.Tie as tie
+use Rattle.corrections.specs.Corrections.{Spread}
+use Rattle.corrections.proofs.Laying.{correctable-same, spread-none, spread-more}
+use Rattle.corrections.proofs.spread.Statement.{statement}
+use Rattle.corrections.proofs.spread.Tie as tie
 
 abbrev Inv-loop : tie.InvT-loop
 Inv-loop rows stripe₀ lost k n len i off diff b₀ stripe b = (k ≤ b) × (b ≤ n) × Spread rows lost len k i off diff b stripe₀ stripe

@@ -1,9 +1,9 @@
 -- Proved: `lay` meets its contract: the part from `at` on gets the multiple, and nothing else changes.
 use native.Mathlib.Omega.{arith}
 use borrow.Author.Needs.{needs}
-use Rattle.pieces.proofs.Laying.{laid-in}
-use Rattle.pieces.proofs.correcting.lay.Statement.{statement}
-use Rattle.pieces.proofs.correcting.lay.Tie as tie
+use Rattle.corrections.proofs.Laying.{laid-in}
+use Rattle.corrections.proofs.lay.Statement.{statement}
+use Rattle.corrections.proofs.lay.Tie as tie
 
 add-end : tie.Need-add-end
 add-end c = search needs
