@@ -6,13 +6,8 @@ use mathlib.Core.List.{List, [], _∷_, _++_}
 use Prim.Native.Nat.{ℕ, zero, suc}
 use lib.Dec.{eqb}
 use Rattle.linear.specs.Sums.{pick}
-use Rattle.note.specs.Note.{groupAt}
 use Rattle.note.specs.declared.Layout.{Layout}
-use Rattle.rows.specs.Rows.{blocks, among, home}
-
--- group g holds group x, itself or nested: a group's subtree stands right behind its header
-unfoldable pub holds : Layout → ℕ → ℕ → Bool
-holds l g x = among g (groupAt l g .size) x
+use Rattle.rows.specs.Rows.{blocks, home, holds}
 
 -- of the groups below m the last that holds both x and y, and 0 if there is none. Groups lie in one another or apart, and an outer one stands
 -- before an inner one, so the last is the innermost

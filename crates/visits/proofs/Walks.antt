@@ -1,30 +1,20 @@
--- Proved: of a layout that a note gives, how groups hold one another, and that the step at which a walk comes to a block is the innermost group
--- that holds both homes: it holds them, and every group that holds them holds it.
+-- Proved: of a layout that a note gives, that the step at which a walk comes to a block is the innermost group that holds both homes: it holds them,
+-- and every group that holds them holds it.
 use mathlib.Core.Path.{_≡_, refl}
 use mathlib.Core.Bool.{Bool, true, false, _&&_}
 use Prim.Native.Nat.{ℕ, zero, suc, _<_, _≤_}
 use native.Mathlib.Omega.{arith}
 use native.Mathlib.Decide.{ℕ-discrete}
 use Rattle.linear.proofs.Sets.{in-and-out}
-use Rattle.note.specs.Note.{groupAt}
 use Rattle.note.specs.Given.{Given}
-use Rattle.note.specs.Facts.{Holds, Proper}
+use Rattle.note.specs.Facts.{Proper}
 use Rattle.note.specs.declared.Layout.{Layout}
-use Rattle.note.proofs.Facts.{given-proper, holds-itself, holds-trans, holds-chain}
-use Rattle.rows.specs.Rows.{home}
-use Rattle.rows.specs.Visits.{holds, meetBelow, step}
-use Rattle.rows.proofs.Ranges.{both-true, among-yes, among-in}
+use Rattle.note.proofs.Facts.{given-proper}
+use Rattle.rows.specs.Rows.{home, holds}
+use Rattle.rows.proofs.Ranges.{both-true}
+use Rattle.rows.proofs.Holds.{top-holds, holds-between}
 use Rattle.rows.proofs.Homes.{home-below}
-
--- ---- `holds` tells whether a group holds another
-
-pub holds-yes : (l : Layout) (g x : ℕ) → Holds l g x → holds l g x ≡ true
-unfolding holds
-holds-yes l g x h = among-yes g (groupAt l g .size) x (h .from) (h .to)
-
-pub holds-in : (l : Layout) (g x : ℕ) → holds l g x ≡ true → Holds l g x
-unfolding holds
-holds-in l g x e = let r = among-in g (groupAt l g .size) x e in record { from = r .0; to = r .1 }
+use Rattle.visits.specs.Visits.{meetBelow, step}
 
 -- ---- the last group that holds two
 
@@ -37,7 +27,7 @@ module _ (l : Layout) (x y : ℕ) where
   unfolding meetBelow
   meet-before g e = rw e
 
-  meet-none : meetBelow l x y 0 ≡ 0
+  pub meet-none : 0 ≡ meetBelow l x y 0
   unfolding meetBelow
   meet-none = refl
 
@@ -75,22 +65,6 @@ module _ (l : Layout) (given : Given l) where
   proper : Proper l
   proper = given-proper l given
 
-  -- ---- groups that hold groups: a group's are the stored size of them from itself on
-
-  pub holds-self : (x : ℕ) → x < l .groups → holds l x x ≡ true
-  holds-self x h = holds-yes l x x (holds-itself l proper x h)
-
-  -- the top holds every group
-  pub top-holds : (x : ℕ) → x < l .groups → holds l 0 x ≡ true
-  top-holds x h = holds-yes l 0 x (record { from = omega arith; to = omega (arith, proper .top) })
-
-  pub holds-nested : (x y z : ℕ) → x < l .groups → holds l x y ≡ true → holds l y z ≡ true → holds l x z ≡ true
-  holds-nested x y z h p q = holds-yes l x z (holds-trans l proper x y z h (holds-in l x y p) (holds-in l y z q))
-
-  -- of two groups that hold a third, the later one lies in the earlier one
-  pub holds-between : (x y z : ℕ) → x ≤ y → holds l x z ≡ true → holds l y z ≡ true → holds l x y ≡ true
-  holds-between x y z h p q = holds-yes l x y (holds-chain l proper x y z h (holds-in l x z p) (holds-in l y z q))
-
   -- ---- the step
 
   pub step-below : (b s : ℕ) → step l b s < l .groups
@@ -100,19 +74,22 @@ module _ (l : Layout) (given : Given l) where
   steps : (b s g : ℕ) → g < l .groups → holds l g (home l b) ≡ true → holds l g (home l s) ≡ true → Last l (home l b) (home l s) (l .groups) g
   steps b s g h p q = last l (home l b) (home l s) (l .groups) g h p q
 
+  tops : (b s : ℕ) → Last l (home l b) (home l s) (l .groups) 0
+  tops b s = steps b s 0 (proper .some) (top-holds l given (home l b) (home-below l given b)) (top-holds l given (home l s) (home-below l given s))
+
   -- the step is a group of the walk: it holds the home of b
   pub step-walk : (b s : ℕ) → holds l (step l b s) (home l b) ≡ true
   unfolding step
-  step-walk b s = steps b s 0 (proper .some) (top-holds (home l b) (home-below l given b)) (top-holds (home l s) (home-below l given s)) .first
+  step-walk b s = tops b s .first
 
   -- and it holds the home of s
   pub step-holds : (b s : ℕ) → holds l (step l b s) (home l s) ≡ true
   unfolding step
-  step-holds b s = steps b s 0 (proper .some) (top-holds (home l b) (home-below l given b)) (top-holds (home l s) (home-below l given s)) .second
+  step-holds b s = tops b s .second
 
   -- it is the innermost such group: every group of the walk that holds the home of s holds the step
   pub step-innermost : (b s g : ℕ) → g < l .groups → holds l g (home l b) ≡ true → holds l g (home l s) ≡ true → holds l g (step l b s) ≡ true
   unfolding step
   step-innermost b s g h p q =
       let r = steps b s g h p q in
-      holds-between g (meetBelow l (home l b) (home l s) (l .groups)) (home l b) (r .behind) p (r .first)
+      holds-between l given g (meetBelow l (home l b) (home l s) (l .groups)) (home l b) (r .behind) p (r .first)

@@ -2,13 +2,13 @@
 use Prim.Native.Nat.{_+_, _-_, _≤_}
 use mathlib.Core.Path.{_≡_}
 use native.Mathlib.Omega.{arith}
-use Rattle.rows.specs.Inner.{Steps}
-use Rattle.rows.proofs.Groups.{few-groups, few-blocks, step-is}
-use Rattle.rows.proofs.Walks.{step-below}
-use Rattle.rows.proofs.Stores.{steps-none, steps-more}
+use Rattle.rows.proofs.Groups.{few-groups, few-blocks}
+use Rattle.visits.specs.Inner.{Steps}
+use Rattle.visits.proofs.Walks.{step-below}
+use Rattle.visits.proofs.Steps.{step-is, steps-none, steps-more}
 use borrow.Author.Needs.{needs}
-use Rattle.rows.proofs.put_steps.Statement.{statement}
-use Rattle.rows.proofs.put_steps.Tie as tie
+use Rattle.visits.proofs.put_steps.Statement.{statement}
+use Rattle.visits.proofs.put_steps.Tie as tie
 
 abbrev Inv-loop : tie.InvT-loop
 Inv-loop l b steps₀ n x s₀ steps s = (s ≤ n) × Steps l b s steps

@@ -3,10 +3,12 @@ use mathlib.Core.Path.{_≡_, sym, _∙_}
 use mathlib.Core.Logic.{⊎-elim}
 use Prim.Native.Nat.{_≤_, _-_}
 use native.Mathlib.Omega.{arith}
-use Rattle.rows.specs.Visits.{meetBelow}
-use Rattle.rows.proofs.Groups.{meet-none, meet-yes, meet-no, few-groups, size-fits}
-use Rattle.rows.proofs.meet.Statement.{statement}
-use Rattle.rows.proofs.meet.Tie as tie
+use Rattle.visits.specs.Visits.{meetBelow}
+use Rattle.rows.proofs.Groups.{few-groups}
+use Rattle.visits.proofs.Walks.{meet-none}
+use Rattle.visits.proofs.Steps.{size-fits, meet-yes, meet-no}
+use Rattle.visits.proofs.meet.Statement.{statement}
+use Rattle.visits.proofs.meet.Tie as tie
 
 abbrev Inv-loop : tie.InvT-loop
 Inv-loop x y l at₀ g₀ at g = (g ≤ l .groups) × (at ≡ meetBelow l x y g)

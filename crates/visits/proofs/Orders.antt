@@ -16,12 +16,13 @@ use Rattle.linear.proofs.Sets.{in-and-out, count-none, count-cong}
 use Rattle.linear.proofs.Choice.{visited-at, visited-place}
 use Rattle.note.specs.Given.{Given}
 use Rattle.note.specs.declared.Layout.{Layout}
 use Rattle.rows.specs.Rows.{blocks}
-use Rattle.rows.specs.Visits.{step, listed, atStep, visitsBelow, visits}
-use Rattle.rows.specs.Orders.{Before}
 use Rattle.rows.proofs.Ranges.{both-true}
-use Rattle.rows.proofs.Walks.{holds-in, holds-between, step-below, step-walk}
-use Rattle.rows.proofs.Lists.{Every, Sorted, Has, every-none, every-one, every-both, every-weak, sorted-none, sorted-one, sorted-both, has-one, has-front, has-behind, sorted-unique}
+use Rattle.rows.proofs.Holds.{holds-in, holds-between}
+use Rattle.visits.specs.Visits.{step, listed, atStep, visitsBelow, visits}
+use Rattle.visits.specs.Orders.{Before}
+use Rattle.visits.proofs.Walks.{step-below, step-walk}
+use Rattle.visits.proofs.Lists.{Every, Sorted, Has, every-none, every-one, every-both, every-weak, sorted-none, sorted-one, sorted-both, has-one, has-front, has-behind, sorted-unique}
 
 -- ---- how many
 

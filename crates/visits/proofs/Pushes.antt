@@ -11,11 +11,11 @@ use lib.ListN.{length, set, replicate, length-append, length-set}
 use lib.Dec.{eqb}
 use Rattle.linear.specs.Solved.{vec}
 use Rattle.note.specs.declared.Layout.{Layout}
 use Rattle.rows.specs.Rows.{blocks}
-use Rattle.rows.specs.Visits.{listed, atStep, visitsBelow, visits}
-use Rattle.rows.specs.Answers.{Listed}
-use Rattle.rows.specs.Inner.{Steps, chosen, gathered, pushed, Extended}
-use Rattle.rows.specs.declared.Visits.{Visits}
+use Rattle.visits.specs.Visits.{listed, atStep, visitsBelow, visits}
+use Rattle.visits.specs.Answers.{Listed}
+use Rattle.visits.specs.Inner.{Steps, chosen, gathered, pushed, Extended}
+use Rattle.visits.specs.declared.Visits.{Visits}
 
 -- ---- one block more
 
