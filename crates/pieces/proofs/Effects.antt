@@ -1,4 +1,4 @@
--- Proved: what the functions on lists leave is what `calls` says of a stripe: an encoding, a correction, a repair, a block as its plan makes it. And bytes
+-- Proved: what the functions on lists leave is what `calls` says of a stripe: an encoding, a repair, a block as its plan makes it. And bytes
 -- that stand where a coefficient is zero, as in a lost block, count for nothing.
 use mathlib.Core.List.{List}
 use mathlib.Core.Bool.{Bool, true, false}
@@ -8,19 +8,18 @@ use native.Mathlib.Omega.{arith}
 use native.Mathlib.Decide.{decLt}
 use lib.ListN.{length, getD}
 use lib.Seq.{ext-getD}
-use Rattle.field.specs.Field.{_⊕_, mul}
+use Rattle.field.specs.Field.{mul}
 use Rattle.field.proofs.Product.{mul-zero-l}
 use Rattle.linear.specs.Sums.{sumTo}
 use Rattle.linear.specs.Combinations.{comb}
 use Rattle.linear.specs.Blocks.{dot}
 use Rattle.linear.specs.Solved.{vec, rowOf}
 use Rattle.linear.proofs.Sums.{sum-cong, sum-less}
-use Rattle.marks.specs.Marks.{marked}
 use Rattle.calls.specs.Code.{Code, Proper, enc, PlanOf}
-use Rattle.calls.specs.Calls.{stripe, Encoded, ByPlan, Repaired, laid, Corrected}
+use Rattle.calls.specs.Calls.{stripe, Encoded, ByPlan, Repaired}
 use Rattle.calls.specs.Demands.{Alike}
 use Rattle.calls.proofs.Plans.{plan-none}
-use Rattle.pieces.specs.Pieces.{byteOf, Others, Gathered, Made, Encodable, EncodedList, CorrectedList}
+use Rattle.pieces.specs.Pieces.{byteOf, Others, Gathered, Made, Encodable, EncodedList}
 use Rattle.pieces.proofs.Blocks.{under}
 use Rattle.pieces.proofs.Combining.{comb-agree, sources}
 
@@ -60,22 +59,6 @@ module _ {rows : List ℕ} {k n len : ℕ} (c : Code) (R : Renders c rows k n le
             let p : k ≤ b = omega (arith, R .data-blocks) in
             let q : b < n = omega (arith, R .blocks) in
             D .made b x p q (omega (arith, R .bytes)) ∙ row-encodes b x xs q (E .columns) (λ i j o. E .zero b i p q j o);
-      }
-
-  -- ---- corrections
-
-  pub corrected : {lost i off : ℕ} {d xs ys : List ℕ} → i < k → CorrectedList rows lost len k n i off d xs ys
-      → Corrected c (stripe len (marked lost) xs) i off d (stripe len (marked lost) ys)
-  corrected {lost} {i} {off} {d} {xs} {ys} j D =
-      record {
-        small = D .small;
-        marks = λ b. refl;
-        block = λ x l. D .block x (omega (arith, R .bytes));
-        others = λ b x h e l. D .others b x (omega (arith, R .data-blocks)) e (omega (arith, R .bytes));
-        redundant = λ b x h m o l.
-            D .present b x (omega (arith, R .data-blocks)) (omega (arith, R .blocks)) o (omega (arith, R .bytes))
-            ∙ ap (λ (y : ℕ). byteOf len xs b x ⊕ mul y (laid off d x)) (sym (R .row b i (omega (arith, R .blocks)) j));
-        missing = λ b x h m o l. D .missing b x (omega (arith, R .data-blocks)) (omega (arith, R .blocks)) o (omega (arith, R .bytes));
       }
 
 -- ---- blocks by their plan

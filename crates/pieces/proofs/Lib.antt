@@ -1,5 +1,4 @@
 pub mod Blocks
 pub mod Combining
 pub mod Filling
-pub mod Laying
 pub mod Effects

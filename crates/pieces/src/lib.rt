@@ -1,5 +1,4 @@
-// Combinations of blocks, blocks written from them, and corrections. Nothing here knows of a call.
-pub mod correcting;
+// Combinations of blocks, and blocks written from them. Nothing here knows of a call.
 pub mod encoding;
 
 ghost use mathlib.Core.Path.{_≡_};

@@ -9,9 +9,9 @@ use Rattle.linear.specs.Greedy.{visited}
 use Rattle.groups.specs.declared.Layout.{Layout}
 use Rattle.given.specs.Given.{Given}
 use Rattle.rows.specs.Rows.{blocks, row}
-use Rattle.rows.specs.Visits.{visits}
+use Rattle.visits.specs.Visits.{visits}
 use Rattle.rows.proofs.Parts.{row-data, row-byte}
-use Rattle.rows.proofs.Orders.{visits-same, visits-below, visits-survive, visits-length, visits-visited}
+use Rattle.visits.proofs.Orders.{visits-same, visits-below, visits-survive, visits-length, visits-visited}
 use Rattle.calls.specs.Code.{Proper, alive}
 use Rattle.plan.specs.Codes.{codeOf}
 

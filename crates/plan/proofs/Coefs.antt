@@ -19,9 +19,9 @@ use Rattle.given.specs.Given.{Given}
 use Rattle.given.proofs.Facts.{given-proper}
 use Rattle.marks.specs.Marks.{marked}
 use Rattle.rows.specs.Rows.{blocks, row}
-use Rattle.rows.specs.Visits.{visits}
+use Rattle.visits.specs.Visits.{visits}
 use Rattle.rows.proofs.Parts.{row-narrow}
-use Rattle.rows.proofs.Orders.{visits-below, visits-visited, visits-past}
+use Rattle.visits.proofs.Orders.{visits-below, visits-visited, visits-past}
 use Rattle.calls.specs.Code.{HasPlan, PlanOf, alive}
 use Rattle.plan.specs.Codes.{codeOf}
 use Rattle.plan.specs.Inner.{Coefficients}

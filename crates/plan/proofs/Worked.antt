@@ -19,8 +19,8 @@ use Rattle.linear.proofs.Agreement.{combo-agree, plan-agree}
 use Rattle.linear.proofs.Certificates.{Term, _times_, coefs, termSum, makes, tells, Reason, kept, passed, placeAfter, plans, combo-by-terms, none-by-data, plan-by-terms}
 use Rattle.note.specs.Tree.{over, overIn, notesIn, datas, datasIn, redundants, redundantsIn, size, sizeIn, groupsOf, groupsIn, layoutOf}
 use Rattle.marks.specs.Marks.{marked, withMark}
-use Rattle.rows.specs.Rows.{among, owns, homeBelow, home, inside, part, rowNumber, row}
-use Rattle.rows.specs.Visits.{holds, meetBelow, step, atStep, visitsBelow, visits}
+use Rattle.rows.specs.Rows.{among, owns, homeBelow, home, inside, part, rowNumber, row, holds}
+use Rattle.visits.specs.Visits.{meetBelow, step, atStep, visitsBelow, visits}
 use Rattle.rows.proofs.Worked.{depot}
 use Rattle.calls.specs.Code.{Code, alive, HasPlan, PlanOf}
 use Rattle.plan.specs.Codes.{codeOf}

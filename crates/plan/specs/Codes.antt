@@ -9,7 +9,7 @@ use Rattle.groups.specs.declared.Layout.{Layout}
 use Rattle.given.specs.Given.{Given}
 use Rattle.marks.specs.Marks.{marked}
 use Rattle.rows.specs.Rows.{blocks, row}
-use Rattle.rows.specs.Visits.{visits}
+use Rattle.visits.specs.Visits.{visits}
 use Rattle.calls.specs.Code.{Code}
 use Rattle.calls.specs.Calls.{Need, _unless_, by}
 use Rattle.plan.specs.declared.Standing.{Standing}

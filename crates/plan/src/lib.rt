@@ -103,7 +103,7 @@ pub fn coefficients(l: Layout, lost: u64, b: usize) -> linear::Answer
 {
     let mut matrix = [0u8; 1536];
     rows::matrix(l, &mut matrix);
-    let v = rows::visit(l, lost, b);
+    let v = visits::visit(l, lost, b);
     let count = v.count;
     let order = v.blocks;
     solve_row(&matrix, &order, count, b)

@@ -1,12 +1,9 @@
 pub mod Ranges
+pub mod Holds
 pub mod Homes
-pub mod Walks
 pub mod Parts
 pub mod Members
-pub mod Lists
-pub mod Orders
 pub mod Groups
-pub mod Pushes
 pub mod Stores
 pub mod Answers
 pub mod Worked

@@ -18,12 +18,11 @@ use Rattle.given.specs.Given.{Given}
 use Rattle.given.specs.Facts.{Proper}
 use Rattle.groups.specs.declared.Layout.{Layout}
 use Rattle.given.proofs.Facts.{given-proper, apart-datas, holds-datas}
-use Rattle.rows.specs.Rows.{blocks, among, home, inside, part, rowNumber, row}
-use Rattle.rows.specs.Visits.{holds}
+use Rattle.rows.specs.Rows.{blocks, among, home, inside, holds, part, rowNumber, row}
 use Rattle.rows.specs.Split.{Disjoint, union, unions, Apart}
 use Rattle.rows.proofs.Ranges.{among-yes, among-in, among-under, among-over}
 use Rattle.rows.proofs.Homes.{home-below, home-data, home-leaf}
-use Rattle.rows.proofs.Walks.{holds-yes, holds-in}
+use Rattle.rows.proofs.Holds.{holds-yes, holds-in}
 
 -- ---- the split
 

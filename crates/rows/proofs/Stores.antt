@@ -1,4 +1,4 @@
--- Proved: what a store adds: an entry to a row, a row to the matrix, a step to the steps.
+-- Proved: what a store adds: an entry to a row, a row to the matrix.
 use mathlib.Core.Path.{_≡_, refl, _∙_}
 use mathlib.Core.List.{List}
 use Prim.Native.Nat.{ℕ, _+_, _*_, _<_}
@@ -9,9 +9,8 @@ use lib.Seq.{getD-set-same, getD-set-other}
 use Rattle.linear.specs.Solved.{rowOf}
 use Rattle.groups.specs.declared.Layout.{Layout}
 use Rattle.rows.specs.Rows.{row}
-use Rattle.rows.specs.Visits.{step}
 use Rattle.rows.specs.Answers.{Matrix}
-use Rattle.rows.specs.Inner.{Written, Steps}
+use Rattle.rows.specs.Inner.{Written}
 
 -- ---- a row
 
@@ -53,15 +52,3 @@ rows-more l b old new w a = record { long = w .long ∙ a .long; here = λ c i k
 
 pub rows-all : (l : Layout) (bytes : List ℕ) → RowsUpto l 48 bytes → Matrix l bytes
 rows-all l bytes a = record { long = a .long; rows = a .here }
-
--- ---- the steps
-
-pub steps-none : (l : Layout) (b : ℕ) (bytes : List ℕ) → length bytes ≡ 48 → Steps l b 0 bytes
-steps-none l b bytes h = record { long = h; here = λ s k. absurd (omega arith) }
-
-pub steps-more : (l : Layout) (b s : ℕ) (bytes : List ℕ) (x : ℕ) → s < 48 → x ≡ step l b s → Steps l b s bytes → Steps l b (s + 1) (set bytes s x)
-steps-more l b s bytes x h e a = record { long = length-set bytes s x ∙ a .long; here = λ p k. here p k (ℕ-discrete p s) }
-  where
-    here : (p : ℕ) → p < s + 1 → Dec (p ≡ s) → getD (set bytes s x) p 0 ≡ step l b p
-    here p k (yes q) = rw q (getD-set-same bytes s x 0 (omega (arith, a .long)) ∙ e)
-    here p k (no q) = getD-set-other bytes s p x 0 (omega arith) ∙ a .here p (omega arith)

@@ -1,13 +1,13 @@
--- Proved: the layout of document 01, "A depot pair worked through", computed from the definitions: its blocks' rows as marked P, and the order in
--- which the plan of block 0 visits the survivors where block 0 is lost. And a layout in which two lost blocks have different orders.
-use Prim.Native.Nat.{ℕ, zero, suc, _<_}
-use mathlib.Core.Path.{_≡_, refl}
-use mathlib.Core.Bool.{Bool, true, false, _||_}
+-- Proved: the layout of document 01, "A depot pair worked through", computed from the definitions: its blocks' rows as marked P.
+use Prim.Native.Nat.{ℕ, zero, suc, _+_, _<_}
+use mathlib.Core.Path.{_≡_, refl, sym}
+use mathlib.Core.Bool.{Bool, true}
 use mathlib.Core.List.{List, [], _∷_, map}
 use native.Mathlib.Omega.{arith}
-use lib.Dec.{T, eqb, ltb, ltb→lt}
+use lib.Dec.{T, ltb, ltb→lt}
 use lib.ListN.{getD}
-use Rattle.field.specs.Field.{_⊕_, double, mulBits, mul, power, inv, coef}
+use Rattle.field.specs.Field.{_⊕_, double, mulBits, mul, coef}
+use Rattle.field.proofs.Laws.{inv-unique}
 use Rattle.field.proofs.Table.{both, both-left, both-right}
 use Rattle.linear.specs.Sums.{put}
 use Rattle.groups.specs.declared.Layout.{Layout}
@@ -18,7 +18,6 @@ use Rattle.note.specs.Worked.{sample}
 use Rattle.note.proofs.Worked.{sample-read}
 use Rattle.note.specs.Tree.{leaf, branch, pair, over, overIn, notesIn, datas, datasIn, redundants, redundantsIn, size, sizeIn, groupsOf, groupsIn, layoutOf}
 use Rattle.rows.specs.Rows.{blocks, among, owns, homeBelow, home, inside, part, rowNumber, row}
-use Rattle.rows.specs.Visits.{holds, meetBelow, step, atStep, visitsBelow, visits}
 
 -- two leaf groups of two data blocks and one redundant block each, and one redundant block over both
 unfoldable pub depot : Layout
@@ -45,21 +44,28 @@ pub depot-blocks : (depot .k ≡ 4) × (blocks depot ≡ 7)
 unfolding depot layoutOf datas redundants over overIn
 depot-blocks = (refl, refl)
 
+-- a coefficient, told by its product with the point that it is the inverse of
+coef-is : (j i x : ℕ) → 128 + (i ⊕ j) < 256 → x < 256 → mul (128 + (i ⊕ j)) x ≡ 1 → coef j i ≡ x
+unfolding coef
+coef-is j i x h k e = sym (inv-unique (128 + (i ⊕ j)) x h (omega arith) k e)
+
+depot-coefs : map (λ (b : ℕ). map (row depot b) (0 ∷ 1 ∷ 2 ∷ 3 ∷ [])) (4 ∷ 5 ∷ 6 ∷ [])
+    ≡ (coef 0 0 ∷ coef 0 1 ∷ coef 0 2 ∷ coef 0 3 ∷ []) ∷ (coef 1 0 ∷ coef 1 1 ∷ 0 ∷ 0 ∷ []) ∷ (0 ∷ 0 ∷ coef 1 2 ∷ coef 1 3 ∷ []) ∷ []
+unfolding row part inside rowNumber home homeBelow owns among put depot layoutOf groupsOf groupsIn datas datasIn redundants redundantsIn size sizeIn notesIn over overIn
+depot-coefs = refl
+
 pub depot-rows : map (λ (b : ℕ). map (row depot b) (0 ∷ 1 ∷ 2 ∷ 3 ∷ [])) (4 ∷ 5 ∷ 6 ∷ [])
     ≡ (27 ∷ 84 ∷ 161 ∷ 29 ∷ []) ∷ (84 ∷ 27 ∷ 0 ∷ 0 ∷ []) ∷ (0 ∷ 0 ∷ 29 ∷ 161 ∷ []) ∷ []
-unfolding row part inside rowNumber home homeBelow owns among put coef inv power mul mulBits double _⊕_ depot layoutOf groupsOf groupsIn datas datasIn redundants redundantsIn size sizeIn notesIn over overIn
-depot-rows = refl
-
-pub depot-visits : visits depot (λ s. eqb s 0) 0 ≡ 1 ∷ 5 ∷ 2 ∷ 3 ∷ 4 ∷ 6 ∷ []
-unfolding visits visitsBelow atStep step meetBelow holds home homeBelow owns among depot layoutOf groupsOf groupsIn datas datasIn redundants redundantsIn size sizeIn notesIn over overIn
-depot-visits = refl
-
--- two leaf groups of four data blocks and one redundant block each, and two redundant blocks over both
-unfoldable pub twelve : Layout
-twelve = layoutOf (branch 2 (pair (leaf 1 4) (leaf 1 4)))
-
--- blocks 0, 4 and 5 lost: block 0 and block 4 each come to their own leaf first
-pub twelve-visits : map (visits twelve (λ s. eqb s 0 || eqb s 4 || eqb s 5)) (0 ∷ 4 ∷ [])
-    ≡ (1 ∷ 2 ∷ 3 ∷ 10 ∷ 6 ∷ 7 ∷ 8 ∷ 9 ∷ 11 ∷ []) ∷ (6 ∷ 7 ∷ 11 ∷ 1 ∷ 2 ∷ 3 ∷ 8 ∷ 9 ∷ 10 ∷ []) ∷ []
-unfolding visits visitsBelow atStep step meetBelow holds home homeBelow owns among twelve layoutOf groupsOf groupsIn datas datasIn redundants redundantsIn size sizeIn notesIn over overIn
-twelve-visits = refl
+unfolding mul mulBits double _⊕_
+depot-rows =
+    rw (
+      depot-coefs,
+      coef-is 0 0 27 (omega arith) (omega arith) refl,
+      coef-is 0 1 84 (omega arith) (omega arith) refl,
+      coef-is 0 2 161 (omega arith) (omega arith) refl,
+      coef-is 0 3 29 (omega arith) (omega arith) refl,
+      coef-is 1 0 84 (omega arith) (omega arith) refl,
+      coef-is 1 1 27 (omega arith) (omega arith) refl,
+      coef-is 1 2 29 (omega arith) (omega arith) refl,
+      coef-is 1 3 161 (omega arith) (omega arith) refl,
+    )

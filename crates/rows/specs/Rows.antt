@@ -1,5 +1,5 @@
--- Believed: document 01, "The layout note": how blocks are numbered and what their rows are; "The plan": the homes of blocks.
--- Every definition is total; of what they say where a layout is given and a block is below n see proofs/Homes and proofs/Parts.
+-- Believed: document 01, "The layout note": how blocks are numbered and what their rows are; "The plan": the homes of blocks, and which group holds
+-- which. Every definition is total; of what they say where a layout is given and a block is below n see proofs/Homes, proofs/Holds and proofs/Parts.
 use mathlib.Core.Bool.{Bool, true, false, _&&_}
 use Prim.Native.Nat.{ℕ, zero, suc, _+_, _-_}
 use lib.Dec.{ltb, leb}
@@ -40,6 +40,10 @@ home l b = homeBelow l b (l .groups)
 -- data block i is inside group x, "nested groups included"
 unfoldable pub inside : Layout → ℕ → ℕ → Bool
 inside l x i = among (groupAt l x .first) (groupAt l x .count) i
+
+-- group g holds group x, itself or nested: a group's subtree stands right behind its header
+unfoldable pub holds : Layout → ℕ → ℕ → Bool
+holds l g x = among g (groupAt l g .size) x
 
 -- the part of row j over the data blocks of the set S: its coefficient at each of them, and zero elsewhere
 unfoldable pub part : ℕ → (ℕ → Bool) → ℕ → ℕ

@@ -7,7 +7,7 @@ use Prim.Native.Nat.{ℕ, zero, suc, _+_, _<_}
 use Rattle.linear.specs.Sets.{none}
 use Rattle.groups.specs.Groups.{groupAt}
 use Rattle.groups.specs.declared.Layout.{Layout}
-use Rattle.rows.specs.Visits.{holds}
+use Rattle.rows.specs.Rows.{holds}
 
 -- what is in S is not in T
 pub record Disjoint (S T : ℕ → Bool) : Type 0 where

@@ -22,12 +22,14 @@ use Rattle.plan.specs.Codes.{codeOf, front}
 use Rattle.plan.specs.Plans.{said}
 use Rattle.plan.specs.Inner.{Coefficients}
 use Rattle.plan.specs.Front.{FrontSays}
-use Rattle.pieces.specs.Pieces.{Sources, Gathered, Correctable, CorrectedList}
+use Rattle.pieces.specs.Pieces.{Sources, Gathered}
+use Rattle.corrections.specs.Corrections.{Correctable, CorrectedList}
 use Rattle.shape.specs.Shapes.{Sized}
 use Rattle.stripe.specs.Stripes.{Corrects, Fetches}
 use Rattle.plan.proofs.Fronts.{Sound, front-refused}
 use Rattle.pieces.proofs.Combining.{sources}
-use Rattle.pieces.proofs.Effects.{corrected, by-plan}
+use Rattle.pieces.proofs.Effects.{by-plan}
+use Rattle.corrections.proofs.Effects.{corrected}
 use Rattle.shape.proofs.Plans.{planned, has-plan}
 use Rattle.stripe.proofs.Answers.{layout-renders}
 

@@ -104,7 +104,7 @@ pub fn correct_by(
     let n = l.k + l.r;
     let mut matrix = [0u8; 1536];
     rows::matrix(l, &mut matrix);
-    pieces::correcting::correct_all(&matrix, stripe, lost, l.k, n, len, i, off, diff);
+    corrections::correct_all(&matrix, stripe, lost, l.k, n, len, i, off, diff);
     Answer::Done
 }
 

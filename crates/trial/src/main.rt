@@ -192,7 +192,7 @@ fn ask_visits(line: &[u8], l: Layout) {
     let b = space[0];
     let lost = word(&space);
     if given::known(l) {
-        let v = rows::visit(l, lost, index(b));
+        let v = visits::visit(l, lost, index(b));
         let count = v.count;
         let blocks = v.blocks;
         number(b"visits of ", wide(b));
