@@ -27,8 +27,8 @@
 //! A wrong command line or file, or a program that cannot be run, ends with 2.
 //! field.rs, note.rs, code.rs, plan.rs, store.rs and depot.rs are the store;
 //! commands.rs and drill.rs run scripts; random.rs, inputs.rs and compare.rs
-//! make the comparison of the program, scripts.rs and drill_compare.rs that
-//! of scripts, figures.rs that of figures.
+//! make the comparison of the program, scripts.rs, scripts/sample.rs and
+//! drill_compare.rs that of scripts, figures.rs that of figures.
 
 use std::io::{self, Read, Write};
 use std::process::ExitCode;
