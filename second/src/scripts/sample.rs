@@ -379,6 +379,7 @@ fn other_layouts(writer: &mut Writer) {
     lost_blocks(writer, &stripe.repeat(2), 0x101);
     writer.length = 1;
     writer.put_note(BRANCH_AND_LEAF.to_vec());
+    writer.put(price(f64::INFINITY, f64::INFINITY));
     for lost in [0x101, 0x80, 0x40, 3, 0x31, 0x213, 0xF, 0x8F, 0x4B1] {
         lost_blocks(writer, &stripe[..11], lost);
         writer.put_spare(1);
@@ -389,6 +390,7 @@ fn other_layouts(writer: &mut Writer) {
     }
     writer.length = 2;
     writer.put_note(FOUR_LEVELS.to_vec());
+    writer.put(price(f64::INFINITY, f64::INFINITY));
     lost_blocks(writer, &stripe.repeat(2)[..22], 0x93);
 }
 
@@ -412,6 +414,7 @@ fn one_block(writer: &mut Writer) {
 /// rebuilt.
 fn largest(writer: &mut Writer) {
     put_largest(writer);
+    writer.put(price(f64::INFINITY, f64::INFINITY));
     for (offset, size) in [(1023, 1), (1024, 0), (1024, 1), (1023, 2), (1025, 0)] {
         writer.put(correct(31, offset, &vec![255; size]));
     }
