@@ -10,7 +10,7 @@ use std::thread;
 use crate::{depot, inputs};
 
 /// How many inputs are run at the same time.
-pub const WORKERS: usize = 2;
+const WORKERS: usize = 2;
 
 pub struct Program {
     pub name: String,
@@ -32,6 +32,25 @@ pub struct Tally {
     bad_ends: usize,
 }
 
+/// What each worker counts by itself, and is then put together.
+pub trait Counts: Default {
+    fn join(&mut self, other: Self);
+
+    /// One line with every kind of answer, those that never came too.
+    fn line(&self) -> String;
+}
+
+/// A difference, told from others by the number of its input or script.
+pub trait Indexed {
+    fn index(&self) -> u64;
+}
+
+impl Indexed for Difference {
+    fn index(&self) -> u64 {
+        self.index
+    }
+}
+
 /// The work shared by the workers: the next input, and the lowest difference.
 pub struct Queue {
     next: AtomicU64,
@@ -40,7 +59,7 @@ pub struct Queue {
 }
 
 impl Queue {
-    pub fn new(count: u64) -> Queue {
+    fn new(count: u64) -> Queue {
         Queue {
             next: AtomicU64::new(0),
             lowest: AtomicU64::new(u64::MAX),
@@ -79,11 +98,7 @@ impl Program {
     }
 }
 
-impl Tally {
-    fn count(&mut self, text: &str) {
-        *self.kinds.entry(kind_of(text)).or_default() += 1;
-    }
-
+impl Counts for Tally {
     fn join(&mut self, other: Tally) {
         for (kind, count) in other.kinds {
             *self.kinds.entry(kind).or_default() += count;
@@ -91,16 +106,7 @@ impl Tally {
         self.bad_ends += other.bad_ends;
     }
 
-    fn of(&self, kind: &str) -> usize {
-        self.kinds.get(kind).copied().unwrap_or(0)
-    }
-
-    fn compared(&self) -> usize {
-        self.kinds.values().sum()
-    }
-
-    /// One line with every kind of answer, those that never came too.
-    pub fn line(&self) -> String {
+    fn line(&self) -> String {
         let layouts = LAYOUTS.map(|kind| self.of(kind));
         let parts: Vec<String> = LAYOUTS
             .iter()
@@ -124,6 +130,20 @@ impl Tally {
     }
 }
 
+impl Tally {
+    fn count(&mut self, text: &str) {
+        *self.kinds.entry(kind_of(text)).or_default() += 1;
+    }
+
+    fn of(&self, kind: &str) -> usize {
+        self.kinds.get(kind).copied().unwrap_or(0)
+    }
+
+    fn compared(&self) -> usize {
+        self.kinds.values().sum()
+    }
+}
+
 const LAYOUTS: [&str; 4] = ["nothing lost", "all have plans", "some have", "none has"];
 
 fn kind_of(text: &str) -> String {
@@ -141,28 +161,41 @@ fn kind_of(text: &str) -> String {
     kind.to_string()
 }
 
-/// Compares the inputs 0 to `count - 1` of a seed. Gives the tally, and the
-/// difference with the lowest index if there is one.
-pub fn compare(
-    seed: u64,
+/// Shares the numbers 0 to `count - 1` out to workers, each of which takes from
+/// the queue until it finds a difference or the queue is empty. Gives the
+/// tallies joined, and the difference with the lowest index if there is one.
+pub fn share_out<T, D>(
     count: u64,
-    program: &Program,
-) -> io::Result<(Tally, Option<Difference>)> {
+    work: impl Fn(&Queue) -> io::Result<(T, Option<D>)> + Sync,
+) -> io::Result<(T, Option<D>)>
+where
+    T: Counts + Send,
+    D: Indexed + Send,
+{
     let queue = Queue::new(count);
-    let results: Vec<io::Result<(Tally, Option<Difference>)>> = thread::scope(|scope| {
-        let work = || scope.spawn(|| work_off(seed, &queue, program));
-        let workers: Vec<_> = (0..WORKERS).map(|_| work()).collect();
+    let results: Vec<io::Result<(T, Option<D>)>> = thread::scope(|scope| {
+        let start = || scope.spawn(|| work(&queue));
+        let workers: Vec<_> = (0..WORKERS).map(|_| start()).collect();
         let join = |worker: thread::ScopedJoinHandle<'_, _>| worker.join().expect("worker");
         workers.into_iter().map(join).collect()
     });
-    let mut tally = Tally::default();
+    let mut tally = T::default();
     let mut differences = Vec::new();
     for result in results {
         let (part, difference) = result?;
         tally.join(part);
         differences.extend(difference);
     }
-    Ok((tally, differences.into_iter().min_by_key(|d| d.index)))
+    Ok((tally, differences.into_iter().min_by_key(D::index)))
+}
+
+/// Compares the inputs 0 to `count - 1` of a seed.
+pub fn compare(
+    seed: u64,
+    count: u64,
+    program: &Program,
+) -> io::Result<(Tally, Option<Difference>)> {
+    share_out(count, |queue| work_off(seed, queue, program))
 }
 
 fn work_off(

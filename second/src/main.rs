@@ -27,13 +27,13 @@
 //! A wrong command line or file, or a program that cannot be run, ends with 2.
 //! field.rs, note.rs, code.rs, plan.rs, store.rs and depot.rs are the store;
 //! commands.rs and drill.rs run scripts; random.rs, inputs.rs and compare.rs
-//! make the comparison of the program, scripts.rs and drill_compare.rs that
-//! of scripts, figures.rs that of figures.
+//! make the comparison of the program, scripts.rs, scripts/sample.rs and
+//! drill_compare.rs that of scripts, figures.rs that of figures.
 
 use std::io::{self, Read, Write};
 use std::process::ExitCode;
 
-use second::compare::{compare, hex, Difference, Program};
+use second::compare::{compare, hex, Counts, Difference, Program};
 use second::{depot, drill, drill_compare, figures, inputs, scripts};
 
 const USAGE: &str = "usage: second depot-text
@@ -103,18 +103,33 @@ fn answer(most: u64, text: fn(&[u8]) -> String) -> io::Result<()> {
 }
 
 fn compare_depot(seed: u64, count: u64, program: &Program) -> ExitCode {
-    match compare(seed, count, program) {
-        Err(error) => fail(&format!("{}: {error}", program.name)),
-        Ok((tally, None)) => {
-            println!("{}", tally.line());
-            ExitCode::SUCCESS
-        }
-        Ok((tally, Some(difference))) => {
-            print_difference(seed, &difference);
-            println!("{}", tally.line());
-            ExitCode::from(1)
-        }
+    let compared = compare(seed, count, program);
+    end(compared, program, |found| print_difference(seed, found))
+}
+
+fn compare_drill(seed: u64, count: u64, program: &Program) -> ExitCode {
+    let compared = drill_compare::compare(seed, count, program);
+    end(compared, program, |found| {
+        print_line_difference(seed, found)
+    })
+}
+
+/// Prints how a comparison ended: its tally, before that a difference if there
+/// is one.
+fn end<T: Counts, D>(
+    compared: io::Result<(T, Option<D>)>,
+    program: &Program,
+    print: impl Fn(&D),
+) -> ExitCode {
+    let (tally, difference) = match compared {
+        Err(error) => return fail(&format!("{}: {error}", program.name)),
+        Ok(compared) => compared,
+    };
+    if let Some(difference) = &difference {
+        print(difference);
     }
+    println!("{}", tally.line());
+    ExitCode::from(u8::from(difference.is_some()))
 }
 
 fn print_difference(seed: u64, difference: &Difference) {
@@ -141,21 +156,6 @@ fn check_figures(file: &str, program: &Program) -> ExitCode {
         }
     }
     ExitCode::from(u8::from(!all_same))
-}
-
-fn compare_drill(seed: u64, count: u64, program: &Program) -> ExitCode {
-    match drill_compare::compare(seed, count, program) {
-        Err(error) => fail(&format!("{}: {error}", program.name)),
-        Ok((tally, None)) => {
-            println!("{}", tally.line());
-            ExitCode::SUCCESS
-        }
-        Ok((tally, Some(difference))) => {
-            print_line_difference(seed, &difference);
-            println!("{}", tally.line());
-            ExitCode::from(1)
-        }
-    }
 }
 
 fn print_line_difference(seed: u64, difference: &drill_compare::Difference) {

@@ -7,11 +7,15 @@ use crate::code::Code;
 use crate::commands::{Command, LETTERS, MOST_SPARE, MOST_STRIPE};
 use crate::drill::Drill;
 use crate::inputs::{damaged_note, over_note, some_marks, sound_note};
-use crate::note::{self, SAMPLE};
+use crate::note;
 use crate::random::Random;
 use crate::store::{Limits, Price};
 
-/// No script is longer.
+mod sample;
+
+pub use sample::sample;
+
+/// No script made from a seed is longer.
 pub const MOST_BYTES: usize = 59_500;
 
 /// A stripe that may be written often.
@@ -588,15 +592,20 @@ impl Writer<'_> {
     }
 }
 
-/// The largest layout and stripe there are, and calls on them.
-fn largest(random: &mut Random) -> Vec<u8> {
-    let mut writer = Writer::new(random, MOST_BYTES);
+/// The largest layout, and a stripe and a spare for it.
+fn put_largest(writer: &mut Writer) {
     writer.put_note(vec![4, 0, 1, 0, 0x10, 0x20]);
     writer.length = 1024;
     writer.put_standing(1024, 0);
     writer.put_spare(1024);
     writer.put_stripe(MOST_STRIPE);
     writer.put(Command::Encode);
+}
+
+/// The largest layout and stripe there are, and calls on them.
+fn largest(random: &mut Random) -> Vec<u8> {
+    let mut writer = Writer::new(random, MOST_BYTES);
+    put_largest(&mut writer);
     for _ in 0..40 {
         writer.calls();
     }
@@ -630,46 +639,5 @@ pub fn script(seed: u64, index: u64) -> Vec<u8> {
             writer.bytes
         }
         _ => chapters(random, most, 64).bytes,
-    }
-}
-
-/// One script with every letter and every refusal of every call: the worked
-/// numbers first, then chapters with short blocks. It ends undamaged.
-pub fn sample() -> Vec<u8> {
-    let random = &mut Random::new(1);
-    let mut writer = Writer::new(random, 58_000);
-    worked(&mut writer);
-    while !writer.full {
-        writer.chapter(16);
-    }
-    writer.bytes
-}
-
-/// The worked numbers of the depot pair.
-fn worked(writer: &mut Writer) {
-    writer.put(Command::State);
-    writer.put_note(SAMPLE.to_vec());
-    writer.put(Command::Stripe(vec![1, 2, 3, 4, 0, 0, 0]));
-    writer.put_spare(1);
-    writer.put(Command::Encode);
-    writer.put(Command::Correct {
-        block: 0,
-        offset: 0,
-        difference: vec![5],
-    });
-    for lost in [0b1, 0b11, 0b111, 0b10101, 0b100011, 0b1100011] {
-        writer.put_standing(1, lost);
-        for block in 0..7 {
-            writer.put(Command::Plan(block));
-            writer.put(Command::Fetch(block));
-            writer.put(Command::View(block));
-        }
-        writer.put(Command::Rebuild);
-    }
-    for (storage, reads) in [(1.75, 2.0), (1.7, 2.0), (1.75, 1.9), (0.0, f64::NAN)] {
-        writer.put(Command::Price {
-            storage: f64::to_bits(storage),
-            reads: reads.to_bits(),
-        });
     }
 }

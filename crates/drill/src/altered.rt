@@ -1,5 +1,4 @@
 // One field of a layout altered: it becomes one more, and the largest number 0.
-ghost use Prim.Native.Nat.{_<_};
 use groups::Group;
 use groups::Layout;
 

@@ -13,7 +13,12 @@ ghost use lib.ListN.{length};
 ghost use Rattle.given.specs.Given.{Given};
 use groups::Layout;
 use libc::STDIN_FILENO;
-use libc::STDOUT_FILENO;
+use lines::fields;
+use lines::fields::index;
+use lines::fields::wide;
+use lines::figure::numerator;
+use lines::notes;
+use lines::show;
 use plan::Answer;
 use plan::Standing;
 use price::Limits;
@@ -60,182 +65,79 @@ fn parse(line: &[u8], out: &mut [u8]) -> usize
     j
 }
 
-fn wide(x: u8) -> u64
-    ensures { λ r. ⌜ r < 256 ⌝ }
-{
-    x as u64
-}
-
-fn index(x: u8) -> usize {
-    x as usize
-}
-
-fn number(text: &[u8], n: u64) {
-    io::write_all(STDOUT_FILENO, text);
-    io::print_decimal(STDOUT_FILENO, n);
-}
-
-// k and r of a layout, which are small.
-fn total(k: usize, r: usize) -> u64 {
-    if k > 255 {
-        return 0;
-    }
-    if r > 255 {
-        return 0;
-    }
-    (k + r) as u64
-}
-
-// Reads a note, says what came of it, and answers the layout to go on with.
-fn ask_note(line: &[u8], l: Layout) -> Layout {
-    let mut space = [0u8; 128];
-    let n = parse(line, &mut space);
-    let r = note::read_note(&space[..n]);
-    let answer = r.answer;
-    match answer {
-        note::Answer::Accepted => {
-            let given = r.layout;
-            number(b"accepted k ", given.k as u64);
-            number(b" n ", total(given.k, given.r));
-            io::write_all(STDOUT_FILENO, b"\n");
-            given
-        }
-        note::Answer::Refused {
-            number: n,
-            offset: o,
-        } => {
-            number(b"refused ", n as u64);
-            number(b" at ", o as u64);
-            io::write_all(STDOUT_FILENO, b"\n");
-            l
-        }
-    }
-}
-
-// Writes the k bytes of row b.
-fn show_row(matrix: &[u8], b: usize, k: usize)
-    requires { ⌜ length (now matrix) ≡ 1536 ⌝ }
+// Writes the row of block b, the first k bytes of it.
+fn show_row(l: Layout, b: usize)
+    requires { ⌜ Given l ⌝ }
 {
     if b > 47 {
         return;
     }
-    let mut i: usize = 0;
-    while i < 32 {
-        if i < k {
-            number(b" ", wide(matrix[b * 32 + i]));
-        }
-        i += 1;
-    }
-    io::write_all(STDOUT_FILENO, b"\n");
-}
-
-// Writes the row of block b of a given layout.
-fn show_block(l: Layout, b: u8)
-    requires { ⌜ Given l ⌝ }
-{
     let mut matrix = [0u8; 1536];
     rows::matrix(l, &mut matrix);
-    number(b"row ", wide(b));
-    show_row(&matrix, index(b), l.k);
+    let from = b * 32;
+    let end = from + 32;
+    show::list(&matrix[from..end], l.k);
+    show::end();
 }
 
-fn ask_row(line: &[u8], l: Layout) {
-    let mut space = [0u8; 128];
-    parse(line, &mut space);
-    let b = space[0];
-    if given::known(l) {
-        show_block(l, b);
-    }
-}
-
-fn ask_home(line: &[u8], l: Layout) {
-    let mut space = [0u8; 128];
-    parse(line, &mut space);
-    let b = space[0];
-    if given::known(l) {
-        let g = rows::home_of(l, index(b));
-        number(b"home ", wide(b));
-        number(b" group ", g as u64);
-        io::write_all(STDOUT_FILENO, b"\n");
-    }
-}
-
-// Eight bytes as a number, the lowest first.
-fn word(s: &[u8]) -> u64
-    requires { ⌜ length (now s) ≡ 128 ⌝ }
+fn ask_row(l: Layout, b: u8)
+    requires { ⌜ Given l ⌝ }
 {
-    let mut m: u64 = 0;
-    let mut i: usize = 8;
-    while i > 0 {
-        m = m % 72057594037927936 * 256 + wide(s[i]);
-        i -= 1;
-    }
-    m
+    show::count(b"row ", wide(b));
+    show_row(l, index(b));
 }
 
-fn show_visits(blocks: &[u8], count: usize)
-    requires { ⌜ length (now blocks) ≡ 48 ⌝ }
+fn ask_home(l: Layout, b: u8)
+    requires { ⌜ Given l ⌝ }
 {
-    let mut i: usize = 0;
-    while i < 48 {
-        if i < count {
-            number(b" ", wide(blocks[i]));
-        }
-        i += 1;
-    }
-    io::write_all(STDOUT_FILENO, b"\n");
+    let g = rows::home_of(l, index(b));
+    show::count(b"home ", wide(b));
+    show::count(b" group ", g as u64);
+    show::end();
 }
 
-fn ask_visits(line: &[u8], l: Layout) {
-    let mut space = [0u8; 128];
-    parse(line, &mut space);
-    let b = space[0];
-    let lost = word(&space);
+fn ask_visits(l: Layout, b: u8, lost: u64)
+    requires { ⌜ Given l ⌝ }
+{
+    let v = visits::visit(l, lost, index(b));
+    let count = v.count;
+    let blocks = v.blocks;
+    show::count(b"visits of ", wide(b));
+    show::list(&blocks, count);
+    show::end();
+}
+
+// The row, the home or the visits of a block.
+fn ask_known(letter: u8, l: Layout, b: u8, lost: u64)
+    requires { ⌜ Given l ⌝ }
+{
+    match letter {
+        b'R' => ask_row(l, b),
+        b'H' => ask_home(l, b),
+        _ => ask_visits(l, b, lost),
+    }
+}
+
+// The questions that only a layout of a note has an answer to.
+fn ask_block(letter: u8, l: Layout, b: u8, lost: u64) {
     if given::known(l) {
-        let v = visits::visit(l, lost, index(b));
-        let count = v.count;
-        let blocks = v.blocks;
-        number(b"visits of ", wide(b));
-        show_visits(&blocks, count);
+        ask_known(letter, l, b, lost);
     }
 }
 
-fn show_plan(block: &[u8], coef: &[u8], reads: usize)
-    requires { ⌜ length (now block) ≡ 32 ⌝ }
-    requires { ⌜ length (now coef) ≡ 32 ⌝ }
-{
-    let mut i: usize = 0;
-    while i < 32 {
-        if i < reads {
-            number(b" ", wide(block[i]));
-            number(b"*", wide(coef[i]));
-        }
-        i += 1;
-    }
-    io::write_all(STDOUT_FILENO, b"\n");
-}
-
-fn ask_plan(line: &[u8], l: Layout) {
-    let mut space = [0u8; 128];
-    parse(line, &mut space);
-    let b = space[0];
-    let lost = word(&space);
+fn ask_plan(l: Layout, b: u8, lost: u64) {
     let st = Standing { len: 1, lost: lost };
     let r = plan::plan_of(l, st, index(b));
     let answer = r.answer;
     let p = r.plan;
-    number(b"plan of ", wide(b));
+    let block = p.block;
+    let coef = p.coef;
+    show::count(b"plan of ", wide(b));
     match answer {
-        Answer::Done => {
-            let block = p.block;
-            let coef = p.coef;
-            show_plan(&block, &coef, p.reads);
-        }
-        Answer::Refused(m) => {
-            number(b" refused ", wide(m));
-            io::write_all(STDOUT_FILENO, b"\n");
-        }
+        Answer::Done => show::items(&block, &coef, p.reads),
+        Answer::Refused(m) => show::count(b" refused ", wide(m)),
     }
+    show::end();
 }
 
 // A limit of q quarters, an infinity or not a number.
@@ -249,23 +151,12 @@ fn limit(q: u8) -> f64 {
     (q as f64) / 4.0
 }
 
-// The number of quarters that x is, or 1000.
-fn quarters(x: f64) -> u64 {
-    let mut q: u32 = 0;
-    while q < 200 {
-        if x == (q as f64) / 4.0 {
-            return q as u64;
-        }
-        q += 1;
-    }
-    1000
+// Words, and a figure's number of quarters.
+fn quarters(words: &[u8], x: f64) {
+    show::count(words, numerator(x, 4));
 }
 
-fn ask_price(line: &[u8], l: Layout) {
-    let mut space = [0u8; 128];
-    parse(line, &mut space);
-    let s = space[0];
-    let r = space[1];
+fn ask_price(l: Layout, s: u8, r: u8) {
     let limits = Limits {
         storage: limit(s),
         reads: limit(r),
@@ -273,58 +164,51 @@ fn ask_price(line: &[u8], l: Layout) {
     let answer = price::price_of(l, limits);
     match answer {
         Price::Fits { storage, reads } => {
-            number(b"fits, storage ", quarters(storage));
-            number(b" reads ", quarters(reads));
+            quarters(b"fits, storage ", storage);
+            quarters(b" reads ", reads);
         }
-        Price::TooLarge(storage) => {
-            number(b"too large, storage ", quarters(storage));
-        }
-        Price::TooManyReads(reads) => {
-            number(b"too many reads, ", quarters(reads));
-        }
-        Price::Refused(m) => {
-            number(b"refused ", wide(m));
-        }
+        Price::TooLarge(storage) => quarters(b"too large, storage ", storage),
+        Price::TooManyReads(reads) => quarters(b"too many reads, ", reads),
+        Price::Refused(m) => show::count(b"refused ", wide(m)),
     }
-    io::write_all(STDOUT_FILENO, b"\n");
+    show::end();
+}
+
+// The questions that leave the layout as it is; the marks stand behind the block.
+fn ask_about(letter: u8, bytes: &[u8], l: Layout) {
+    let b = fields::at(bytes, 0);
+    let lost = fields::word(bytes, 1);
+    match letter {
+        b'R' | b'H' | b'V' => ask_block(letter, l, b, lost),
+        b'P' => ask_plan(l, b, lost),
+        b'C' => ask_price(l, b, fields::at(bytes, 1)),
+        _ => show::text(b"no such question\n"),
+    }
+}
+
+// Asks with the bytes of a line, and answers the layout to go on with.
+fn ask_with(letter: u8, bytes: &[u8], l: Layout) -> Layout {
+    if letter == b'N' {
+        return notes::read(bytes, l, b"accepted k ", b"refused ");
+    }
+    ask_about(letter, bytes, l);
+    l
 }
 
 // A line's answer, and the layout to go on with.
 fn ask(line: &[u8], l: Layout) -> Layout {
+    let letter = fields::at(line, 0);
     if line.len() == 0 {
         return l;
     }
-    let letter = line[0];
     if letter == b'#' {
-        io::write_all(STDOUT_FILENO, line);
-        io::write_all(STDOUT_FILENO, b"\n");
+        show::text(line);
+        show::end();
         return l;
     }
-    if letter == b'N' {
-        return ask_note(line, l);
-    }
-    if letter == b'R' {
-        ask_row(line, l);
-        return l;
-    }
-    if letter == b'H' {
-        ask_home(line, l);
-        return l;
-    }
-    if letter == b'P' {
-        ask_plan(line, l);
-        return l;
-    }
-    if letter == b'C' {
-        ask_price(line, l);
-        return l;
-    }
-    if letter == b'V' {
-        ask_visits(line, l);
-        return l;
-    }
-    io::write_all(STDOUT_FILENO, b"no such question\n");
-    l
+    let mut space = [0u8; 128];
+    let n = parse(line, &mut space);
+    ask_with(letter, &space[0..n], l)
 }
 
 // Where the line that starts at `at` ends.
