@@ -141,10 +141,8 @@ impl Drill {
         match call {
             Command::Encode => {
                 let answer = number(&store.encode());
-                (
-                    format!("encode {answer} {}", self.held()),
-                    answer.to_string(),
-                )
+                let line = format!("encode {answer} {}", self.held());
+                (line, answer.to_string())
             }
             Command::Lose(block) => {
                 let answer = number(&store.lose(*block as usize));

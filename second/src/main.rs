@@ -52,13 +52,7 @@ fn main() -> ExitCode {
         ["depot-text"] => answer(u64::MAX, depot::text),
         ["drill-text"] => answer(drill::MOST_SCRIPT as u64, drill::text),
         ["drill-sample"] => io::stdout().write_all(&scripts::sample()),
-        ["figures", file, name, ..] => {
-            let program = Program {
-                name: name.to_string(),
-                arguments: arguments[3..].to_vec(),
-            };
-            return check_figures(file, &program);
-        }
+        ["figures", file, name, ..] => return check_figures(file, &program(name, &words[3..])),
         [what @ ("depot-input" | "drill-script"), seed, index] => {
             let (Ok(seed), Ok(index)) = (seed.parse(), index.parse()) else {
                 return fail(USAGE);
@@ -73,10 +67,7 @@ fn main() -> ExitCode {
             let (Ok(seed), Ok(count)) = (seed.parse(), count.parse()) else {
                 return fail(USAGE);
             };
-            let program = Program {
-                name: name.to_string(),
-                arguments: arguments[4..].to_vec(),
-            };
+            let program = program(name, &words[4..]);
             return match what {
                 "compare-depot" => compare_depot(seed, count, &program),
                 _ => compare_drill(seed, count, &program),
@@ -87,6 +78,14 @@ fn main() -> ExitCode {
     match done {
         Ok(()) => ExitCode::SUCCESS,
         Err(error) => fail(&error.to_string()),
+    }
+}
+
+/// The program that is run beside this one.
+fn program(name: &str, arguments: &[&str]) -> Program {
+    Program {
+        name: name.to_string(),
+        arguments: arguments.iter().map(|word| word.to_string()).collect(),
     }
 }
 

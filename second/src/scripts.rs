@@ -559,8 +559,8 @@ impl Writer<'_> {
                 self.bytes.push(byte);
             }
             2 => {
-                let more = self.random.pick(&[1, 1, 1, 2, 2_048]);
-                let spare = self.random.bytes(MOST_SPARE + more);
+                // one byte too long: a bound that is one off lets no more than that through
+                let spare = self.random.bytes(MOST_SPARE + 1);
                 self.bytes.extend(Command::Spare(spare).bytes());
             }
             _ if room > MOST_STRIPE + 100 => {
