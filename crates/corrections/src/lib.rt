@@ -4,7 +4,7 @@ ghost use lib.ListN.{length};
 ghost use Rattle.corrections.specs.Corrections.{Laid, Correctable, Touched, Spread, CorrectedList};
 
 // Adds c times the difference, from position `at` on.
-pub fn lay(stripe: &mut [u8], at: usize, diff: &[u8], c: u8)
+fn lay(stripe: &mut [u8], at: usize, diff: &[u8], c: u8)
     requires { ⌜ at + length (now diff) ≤ length (now stripe) ⌝ }
     ensures { λ _. ⌜ Laid (now (diff .entry)) c at (now (stripe .entry)) (now (stripe .exit)) ⌝ }
 {

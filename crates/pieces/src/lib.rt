@@ -6,7 +6,7 @@ ghost use Prim.Native.Nat.{_+_, _<_, _≤_};
 ghost use lib.ListN.{length};
 ghost use Rattle.pieces.specs.Pieces.{Sources, Added, Combined, Others, Gathered, Made};
 
-pub fn copy(dst: &mut [u8], src: &[u8])
+fn copy(dst: &mut [u8], src: &[u8])
     requires { ⌜ length (now src) ≡ length (now dst) ⌝ }
     ensures { λ _. ⌜ now (dst .exit) ≡ now (src .entry) ⌝ }
 {
