@@ -13,8 +13,10 @@ use Rattle.rows.specs.Rows.{blocks}
 use Rattle.plan.specs.declared.Standing.{Standing}
 use Rattle.plan.proofs.Verdicts.{plans-unique}
 use Rattle.text.specs.Text.{layoutText}
-use Rattle.report.specs.Line.{lineOf}
-use Rattle.report.specs.Report.{noteSize, standingIn, Lines, none, present, lost, Listed, lines, Asks, met, unmet, Read, Says, Printed, Report}
+use Rattle.input.specs.Input.{noteSize, standingIn}
+use Rattle.loss.specs.Line.{lineOf}
+use Rattle.losses.specs.Lines.{Lines, none, present, lost}
+use Rattle.report.specs.Report.{Listed, lines, Asks, met, unmet, Read, Says, Printed, Report}
 
 lines-unique : (l : Layout) (st : Standing) {b : ℕ} {s t : List ℕ} → Lines l st b s → Lines l st b t → s ≡ t
 lines-unique l st none none = refl

@@ -7,7 +7,7 @@ use native.Mathlib.Omega.{arith}
 use native.Mathlib.Nat.{zero-add}
 use lib.ListN.{length, getD, take, drop, length-append, length-drop}
 use lib.Seq.{take-all, sets-eq}
-use Rattle.note.specs.Note.{Bytes, lengthAt, word, readNote, Outcome, reading}
+use Rattle.note.specs.Note.{Bytes, lengthAt, readNote, Outcome, reading}
 use Rattle.note.specs.Note.Outcome.{layout, refusal}
 use Rattle.given.specs.Given.{Given}
 use Rattle.groups.specs.declared.Layout.{Layout}
@@ -20,9 +20,12 @@ use Rattle.marks.proofs.Bits.{none-from}
 use Rattle.rows.specs.Rows.{blocks}
 use Rattle.plan.specs.declared.Standing.{Standing}
 use Rattle.text.specs.Text.{refusedText, layoutText}
-use Rattle.report.specs.Report.{noteSize, little, standingIn, Whole, Lines, Listed, lines, Asks, met, unmet, Follows, Says, Report}
+use Rattle.input.specs.Input.{noteSize, standingIn, Whole}
+use Rattle.input.specs.Inner.{Parted}
+use Rattle.losses.specs.Lines.{Lines}
+use Rattle.losses.specs.Inner.{Written}
+use Rattle.report.specs.Report.{lines, Asks, met, unmet, Follows, Says, Report}
 use Rattle.text.specs.Put.{Put}
-use Rattle.report.specs.Inner.{Written, Parted}
 use Rattle.text.proofs.Digits.{decimal-short}
 use Rattle.text.proofs.Puts.{put-then}
 
@@ -45,26 +48,22 @@ module _ {P : Type 0} {number : ℕ} {Next : List ℕ → Type 0} {a b : List �
   written-met x w = record { text = w .text; holds = met x (w .holds); short = w .short; put = w .put }
 
 -- a mark at n or above
-pub stray : (m n : ℕ) → noneFrom m n ≡ false → ((b : ℕ) → n ≤ b → marked m b ≡ false) → ⊥
+stray : (m n : ℕ) → noneFrom m n ≡ false → ((b : ℕ) → n ≤ b → marked m b ≡ false) → ⊥
 stray m n e h = in-and-out (none-from m n .1 h) e
 
-module _ (l : Layout) (rest : List ℕ) (st : Standing) (len : st .len ≡ word rest 0 1) (marks : st .lost ≡ little (take 8 (drop 2 rest))) where
-  read : st ≡ standingIn rest
-  read = λ i. record { len = len i; lost = marks i }
-
-  pub follow-stray : {a b : List ℕ} {r : ℕ} → Whole (blocks l) rest → noneFrom (st .lost) (blocks l) ≡ false → Put (refusedText 8) 0 a b r
+module _ (l : Layout) (rest : List ℕ) (st : Standing) (read : st ≡ standingIn rest) (w : Whole (blocks l) rest) where
+  pub follow-stray : {a b : List ℕ} {r : ℕ} → noneFrom (st .lost) (blocks l) ≡ false → Put (refusedText 8) 0 a b r
       → Written (Follows l rest) 12288 0 a b r
-  follow-stray w e p =
-      written-met w (written-unmet (λ h. stray (st .lost) (blocks l) e (subst (λ (m : ℕ). (b : ℕ) → blocks l ≤ b → marked m b ≡ false) (sym marks) h)) p)
+  follow-stray e p = written-met w (written-unmet (stray (standingIn rest .lost) (blocks l) (rw read at e)) p)
 
-  pub follow-listed : {a b c : List ℕ} {m r : ℕ} → blocks l ≤ 48 → Whole (blocks l) rest → noneFrom (st .lost) (blocks l) ≡ true
+  pub follow-listed : {a b c : List ℕ} {m r : ℕ} → blocks l ≤ 48 → noneFrom (st .lost) (blocks l) ≡ true
       → Put (layoutText (l .k) (blocks l)) 0 a b m → Written (Lines l st (blocks l)) (232 * blocks l) m b c r → Written (Follows l rest) 12288 0 a c r
-  follow-listed n w e p o =
+  follow-listed n e p o =
       written-met w
-      (written-met (subst (λ (m : ℕ). (b : ℕ) → blocks l ≤ b → marked m b ≡ false) marks (none-from (st .lost) (blocks l) .0 e))
+      (written-met (none-from (standingIn rest .lost) (blocks l) .0 (rw read at e))
       (record {
         text = layoutText (l .k) (blocks l) ++ o .text;
-        holds = subst (λ (s : Standing). Listed l s (layoutText (l .k) (blocks l) ++ o .text)) read (lines (o .holds));
+        holds = lines (rw read at (o .holds));
         short = omega (arith, length-append (layoutText (l .k) (blocks l)) (o .text), layout-short (l .k) (blocks l), o .short);
         put = put-then p (o .put);
       }))

@@ -1,20 +1,15 @@
 -- Proved: document 01, "A depot pair worked through": for lost {0, 1, 5, 6} the text is the document's.
 use mathlib.Core.Path.{_≡_, refl}
-use mathlib.Core.Bool.{Bool, true, false}
+use mathlib.Core.Bool.{true, false}
 use mathlib.Core.List.{List, [], _∷_, _++_}
 use mathlib.Core.Logic.{inl, inr}
 use Prim.Native.Nat.{ℕ, zero, suc, _<_, _≤_}
 use native.Mathlib.Omega.{arith}
-use lib.Dec.{T, ltb, ltb→lt}
-use lib.ListN.{getD, drop}
+use lib.ListN.{drop}
 use Rattle.field.specs.Field.{_⊕_}
-use Rattle.field.proofs.Table.{both, both-left, both-right}
 use Rattle.linear.specs.Sums.{put}
 use Rattle.linear.proofs.Certificates.{Term, _times_, coefs}
-use Rattle.note.specs.Note.{readNote}
-use Rattle.note.specs.Note.Outcome.{layout}
-use Rattle.note.specs.Worked.{sample}
-use Rattle.note.specs.Tree.{over, overIn, notesIn, datas, datasIn, redundants, redundantsIn, size, sizeIn, groupsOf, groupsIn, layoutOf}
+use Rattle.note.specs.Tree.{over, overIn, datas, redundants, layoutOf}
 use Rattle.marks.specs.Marks.{marked, withMark, noneFrom}
 use Rattle.marks.proofs.Bits.{none-from}
 use Rattle.rows.specs.Rows.{blocks}
@@ -27,8 +22,10 @@ use Rattle.plan.specs.Plans.{Plans, refusal}
 use Rattle.plan.proofs.Worked.{marksOf, Case, Right, Each, end, also, cases, cases-right, nothing}
 use Rattle.plan.proofs.Worked as Plan-worked
 use Rattle.text.specs.Text.{decimal, itemsText, layoutText}
-use Rattle.report.specs.Line.{lineOf}
-use Rattle.report.specs.Report.{little, Whole, Lines, none, present, lost, Listed, lines, met, Follows, Says}
+use Rattle.input.specs.Input.{little, Whole}
+use Rattle.loss.specs.Line.{lineOf}
+use Rattle.losses.specs.Lines.{Lines, none, present, lost}
+use Rattle.report.specs.Report.{Listed, lines, met, Follows, Says}
 use Rattle.report.specs.Worked.{sampleRest, sampleInput, sampleText}
 
 -- ---- the plans

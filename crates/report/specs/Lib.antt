@@ -1,4 +1,2 @@
-pub mod Line
 pub mod Report
-pub mod Inner
 pub mod Worked

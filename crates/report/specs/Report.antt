@@ -1,51 +1,21 @@
--- Believed: document 01, "A depot pair worked through": "A program reads .. the note's top record, two bytes L, eight bytes of lost marks (lowest bit
--- block 0), and the stripe", and what it writes.
+-- Believed: document 01, "A depot pair worked through": what the program writes for its input.
 use mathlib.Core.Path.{_≡_}
-use mathlib.Core.Bool.{true, false}
-use mathlib.Core.List.{List, [], _∷_, _++_}
-use Prim.Native.Nat.{ℕ, suc, _+_, _*_, _<_, _≤_, max}
+use mathlib.Core.Bool.{false}
+use mathlib.Core.List.{List, _++_}
+use Prim.Native.Nat.{ℕ, _<_, _≤_}
 use lib.ListN.{length, take, drop}
-use Rattle.note.specs.Note.{lengthAt, word, readNote}
+use Rattle.note.specs.Note.{lengthAt, readNote}
 use Rattle.note.specs.Note as Note
 use Rattle.note.specs.Note.Outcome.{layout, refusal}
 use Rattle.groups.specs.declared.Layout.{Layout}
 use Rattle.marks.specs.Marks.{marked}
 use Rattle.rows.specs.Rows.{blocks}
 use Rattle.plan.specs.declared.Standing.{Standing}
-use Rattle.plan.specs.declared.Planned.{Planned}
-use Rattle.plan.specs.Codes.{InRange}
-use Rattle.plan.specs.Plans.{Plans}
 use Rattle.text.specs.Text.{refusedText, layoutText}
-use Rattle.report.specs.Line.{lineOf}
-
--- ---- the input
-
--- "The reader gets that record, but never less than the first four bytes where they are there."
-abbrev pub noteSize : List ℕ → ℕ
-noteSize s = max 4 (2 + lengthAt s 0)
-
--- a number by its bytes, the lowest first
-unfoldable pub little : List ℕ → ℕ
-little [] = 0
-little (x ∷ xs) = x + 256 * little xs
-
--- L and the marks, in what follows the note
-abbrev pub standingIn : List ℕ → Standing
-standingIn rest = record { len = word rest 0 1; lost = little (take 8 (drop 2 rest)) }
-
--- "after a sound note, missing or extra bytes give `refused 7`": L is in its range, and L, the marks and n blocks of L bytes are all there is
-pub record Whole (n : ℕ) (rest : List ℕ) : Type 0 where
-  pub range : InRange (word rest 0 1)
-  pub size : length rest ≡ 2 + 8 + n * word rest 0 1
+use Rattle.input.specs.Input.{noteSize, standingIn, Whole}
+use Rattle.losses.specs.Lines.{Lines}
 
 -- ---- the text
-
--- the lines of the lost blocks below b, rising, each planned against the marks as read. A block that is not marked has none
-pub data Lines (l : Layout) (st : Standing) : ℕ → List ℕ → Type 0 where
-  none : Lines l st 0 []
-  present : {b : ℕ} {text : List ℕ} → Lines l st b text → marked (st .lost) b ≡ false → Lines l st (suc b) text
-  lost : {b : ℕ} {text : List ℕ} {r : Planned} → Lines l st b text → marked (st .lost) b ≡ true → Plans l st b r
-      → Lines l st (suc b) (text ++ lineOf b r)
 
 -- the line of the layout, then those of all its lost blocks
 pub data Listed (l : Layout) (st : Standing) : List ℕ → Type 0 where

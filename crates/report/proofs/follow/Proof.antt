@@ -1,8 +1,8 @@
 -- Proved: `follow` meets its contract: 7 and 8 are asked in this order, and then the lines are put.
-use mathlib.Core.Path.{refl, sym, _∙_}
+use mathlib.Core.Path.{sym, _∙_}
 use native.Mathlib.Omega.{arith}
 use Rattle.rows.specs.Rows.{blocks}
-use Rattle.report.specs.Report.{Whole}
+use Rattle.input.specs.Input.{Whole}
 use borrow.Author.Tests.{not-true, not-false}
 use Rattle.given.proofs.Facts.{given-proper}
 use Rattle.plan.proofs.Verdicts.{told-yes, told-no}
@@ -38,31 +38,22 @@ returns c =
     written-unmet (told-no (after-whole .whole .result) (after-whole .whole .ensures) (after-if1 .if1 .taken))
     (after-put-refused .put-refused .ensures)
 
-sub-little : tie.Need-sub-little
-sub-little c = search needs
-
-part-little-start : tie.Need-part-little-start
-part-little-start c = search needs
-
-part-little-end : tie.Need-part-little-end
-part-little-end c =
+standing-in-requires : tie.Need-standing-in-requires
+standing-in-requires c κs =
     let after-whole = c .before in
     let start = after-whole .before .before .before .before in
     let w : Whole (blocks (start .args .l)) (start .args .rest .now) =
     told-yes (after-whole .whole .result) (after-whole .whole .ensures) (c .if1 .left) in
     omega (arith, w .size)
 
-little-requires : tie.Need-little-requires
-little-requires c κs = search needs
-
 none-from-requires : tie.Need-none-from-requires
 none-from-requires c κs =
-    let start = c .before .before .before .before .before .before .before in
+    let start = c .before .before .before .before .before .before in
     omega (arith, given-proper (start .args .l) (start .pre .0) .n)
 
 put-refused-requires-2 : tie.Need-put-refused-requires-2
 put-refused-requires-2 c κs =
-    let start = c .before .before .before .before .before .before .before .before .before .before in
+    let start = c .before .before .before .before .before .before .before .before .before in
     refused-room 8 (start .args .out .now) (start .pre .1)
 
 same-length-2 : tie.Need-same-length-2
@@ -73,52 +64,40 @@ returns-2 c =
     let after-put-refused2 = c .before .before in
     let after-if2 = after-put-refused2 .before .before in
     let after-none-from = after-if2 .before in
-    let after-little = after-none-from .before in
-    let after-if1 = after-little .before .before in
+    let after-standing-in = after-none-from .before in
+    let after-if1 = after-standing-in .before in
     let after-whole = after-if1 .before in
     let start = after-whole .before .before .before .before in
     let w : Whole (blocks (start .args .l)) (start .args .rest .now) =
     told-yes (after-whole .whole .result) (after-whole .whole .ensures) (after-if1 .if1 .left) in
-    follow-stray (start .args .l) _ (record { len = _; lost = after-little .little .result }) refl (after-little .little .ensures) w
+    follow-stray (start .args .l) _ (after-standing-in .standing-in .result) (after-standing-in .standing-in .ensures) w
     (sym (after-none-from .none-from .ensures) ∙ not-true _ (after-if2 .if2 .taken)) (after-put-refused2 .put-refused2 .ensures)
 
-word-requires : tie.Need-word-requires
-word-requires c κs =
-    let after-if1 = c .before .before .before .before in
-    let after-whole = after-if1 .before in
-    let start = after-whole .before .before .before .before in
-    let w : Whole (blocks (start .args .l)) (start .args .rest .now) =
-    told-yes (after-whole .whole .result) (after-whole .whole .ensures) (after-if1 .if1 .left) in
-    omega (arith, w .size)
-
-low-requires : tie.Need-low-requires
-low-requires c κs =
-    let start = c .before .before .before .before .before .before .before .before .before .before .before in
+cast-put-layout : tie.Need-cast-put-layout
+cast-put-layout c =
+    let start = c .before .before .before .before .before .before .before .before .before .before in
     omega (arith, given-proper (start .args .l) (start .pre .0) .k)
 
-low-requires-2 : tie.Need-low-requires-2
-low-requires-2 c κs =
-    let start = c .before .before .before .before .before .before .before .before .before .before .before .before in
+cast-put-layout-2 : tie.Need-cast-put-layout-2
+cast-put-layout-2 c =
+    let start = c .before .before .before .before .before .before .before .before .before .before in
     omega (arith, given-proper (start .args .l) (start .pre .0) .n)
 
 put-layout-requires : tie.Need-put-layout-requires
 put-layout-requires c κs =
-    let after-low = c .before in
-    let start = after-low .before .before .before .before .before .before .before .before .before .before .before .before in
-    omega (arith, start .pre .1, layout-short (after-low .low .result) (c .low2 .result))
+    let start = c .before .before .before .before .before .before .before .before .before .before in
+    omega (arith, start .pre .1, layout-short (start .args .l .k) (blocks (start .args .l)))
 
 put-lines-requires : tie.Need-put-lines-requires
 put-lines-requires c κs =
     let after-put-layout = c .before .before .before in
-    let after-low2 = after-put-layout .before in
-    let after-low = after-low2 .before in
-    let start = after-low .before .before .before .before .before .before .before .before .before .before .before .before in (
+    let start = after-put-layout .before .before .before .before .before .before .before .before .before .before .before in (
       given-proper (start .args .l) (start .pre .0) .n,
       omega (
         arith,
         start .pre .1,
         given-proper (start .args .l) (start .pre .0) .n,
-        layout-short (after-low .low .result) (after-low2 .low2 .result),
+        layout-short (start .args .l .k) (blocks (start .args .l)),
         after-put-layout .put-layout .ensures .end,
         put-length (after-put-layout .put-layout .ensures),
       ),
@@ -131,22 +110,17 @@ returns-3 : tie.Need-returns-3
 returns-3 c =
     let after-put-lines = c .before .before in
     let after-put-layout = after-put-lines .before .before .before .before in
-    let after-low2 = after-put-layout .before in
-    let after-low = after-low2 .before in
-    let after-word = after-low .before .before in
-    let after-if2 = after-word .before in
+    let after-if2 = after-put-layout .before .before .before in
     let after-none-from = after-if2 .before in
-    let after-little = after-none-from .before in
-    let after-if1 = after-little .before .before in
+    let after-standing-in = after-none-from .before in
+    let after-if1 = after-standing-in .before in
     let after-whole = after-if1 .before in
     let start = after-whole .before .before .before .before in
     let w : Whole (blocks (start .args .l)) (start .args .rest .now) =
     told-yes (after-whole .whole .result) (after-whole .whole .ensures) (after-if1 .if1 .left) in
-    follow-listed (start .args .l) _ (record { len = after-word .word .result; lost = after-little .little .result })
-    (after-word .word .ensures .0) (after-little .little .ensures) (given-proper (start .args .l) (start .pre .0) .n) w
-    (sym (after-none-from .none-from .ensures) ∙ not-false _ (after-if2 .if2 .left))
-    (rw (after-low .low .ensures, after-low2 .low2 .ensures) at (after-put-layout .put-layout .ensures))
-    (after-put-lines .put-lines .ensures)
+    follow-listed (start .args .l) _ (after-standing-in .standing-in .result) (after-standing-in .standing-in .ensures) w
+    (given-proper (start .args .l) (start .pre .0) .n) (sym (after-none-from .none-from .ensures) ∙ not-false _ (after-if2 .if2 .left))
+    (after-put-layout .put-layout .ensures) (after-put-lines .put-lines .ensures)
 
 pub follow-spec : {M : Type 1} → statement M
 follow-spec =
@@ -157,17 +131,13 @@ follow-spec =
     put-refused-requires
     same-length
     returns
-    sub-little
-    part-little-start
-    part-little-end
-    little-requires
+    standing-in-requires
     none-from-requires
     put-refused-requires-2
     same-length-2
     returns-2
-    word-requires
-    low-requires
-    low-requires-2
+    cast-put-layout
+    cast-put-layout-2
     put-layout-requires
     put-lines-requires
     same-length-3
