@@ -1,5 +1,5 @@
--- Proved: document 01, "A depot pair worked through": every line marked P, one statement to a line, over what the public calls promise. Whatever a call
--- answers and leaves that meets its promise is what the document says.
+-- Proved: document 01, "A depot pair worked through": every line marked P by a single statement over one list, over what the public calls promise. Whatever
+-- a call answers and leaves that meets its promise is what the document says.
 use mathlib.Core.Path.{_≡_, _∙_, ap}
 use mathlib.Core.List.{List, [], _∷_, map}
 use Prim.Native.Nat.{ℕ}
@@ -29,20 +29,27 @@ line-products = products-hold
 
 -- ---- "note .. k = 4, n = 7. Row 0 is 27, 84, 161, 29; block 5 is 84, 27, 0, 0; block 6 is 0, 0, 29, 161"
 
+-- the layout is the depot pair, of which the other lines speak
+pub sample-depot : (r : Reading) → Read sample r → r ≡ record { answer = Accepted; layout = depot }
+sample-depot r h = h ∙ ap reading depot-read
+
 pub line-note : (r : Reading) → Read sample r
-    → (r ≡ record { answer = Accepted; layout = depot })
-    × (map (λ (p : Asked × List ℕ). told depot (p .0)) facts ≡ map (λ (p : Asked × List ℕ). p .1) facts)
-line-note r h = (h ∙ ap reading depot-read, depot-rows)
+    → map (λ (p : Asked × List ℕ). told (r .layout) (p .0)) facts ≡ map (λ (p : Asked × List ℕ). p .1) facts
+line-note r h = ap (λ (z : Reading). map (λ (p : Asked × List ℕ). told (z .layout) (p .0)) facts) (sample-depot r h) ∙ depot-rows
 
 -- ---- "L = 1, data 1 2 3 4: stripe 1 2 3 4 57 98 153"
 
 -- whatever stood in the redundant blocks, and whatever was marked lost
-pub line-stripe : (lost p q s : ℕ) (r : Said) (st′ : Standing) (ys : List ℕ)
-    → Encode depot (record { len = 1; lost = lost }) (1 ∷ 2 ∷ 3 ∷ 4 ∷ p ∷ q ∷ s ∷ []) r st′ ys
-    → (ys ≡ stripe) × (st′ ≡ record { len = 1; lost = 0 }) × (r ≡ record { number = 0; block = 0 })
-line-stripe lost p q s r st′ ys h =
-    let x = depot-stripe lost p q s ys _ (h .does) in
-    (x .0, ap (λ z. z .standing) (x .1), h .said ∙ ap (λ z. spoken (z .answer)) (x .1))
+module _ (lost p q s : ℕ) (r : Said) (st′ : Standing) (ys : List ℕ)
+    (h : Encode depot (record { len = 1; lost = lost }) (1 ∷ 2 ∷ 3 ∷ 4 ∷ p ∷ q ∷ s ∷ []) r st′ ys) where
+  -- the encoding is accepted, and nothing is lost
+  pub sample-encoded : (r ≡ record { number = 0; block = 0 }) × (st′ ≡ record { len = 1; lost = 0 })
+  sample-encoded =
+      let x = depot-stripe lost p q s ys _ (h .does) .1 in
+      (h .said ∙ ap (λ z. spoken (z .answer)) x, ap (λ z. z .standing) x)
+
+  pub line-stripe : ys ≡ stripe
+  line-stripe = depot-stripe lost p q s ys _ (h .does) .0
 
 -- ---- "lost {0}: plan 26 x block 1 + 129 x block 5"; "lost {0, 1}, {0, 1, 2}, {0, 2, 4}: all have plans. Lost {0, 1, 5}: none has. Lost {0, 1, 5, 6}: only 6 has"
 
