@@ -22,7 +22,7 @@ use Rattle.calls.specs.Calls as Calls
 use Rattle.calls.specs.Calls.{Stripe, Call, Need, First, needs, by, done, refused, encode, lose, repair, rebuild, correct, fetch, Verdict, Outcome, Step}
 use Rattle.calls.specs.Demands as Demands
 use Rattle.calls.specs.Demands.{Holds, Alike, Fixed, Written, Independents}
-use Rattle.calls.proofs.Needs.{undone, past, done-met, All-met, none, also}
+use Rattle.calls.proofs.Needs.{undone, past, done-met}
 use Rattle.calls.proofs.Answers.{verdict-unique, sound-step, done-step, Lowest, rebuild-done, rebuild-refused}
 use Rattle.calls.proofs.Plans.{fixed-iff, plan-none, plan-back}
 use Rattle.calls.proofs.Rebuilds.{rebuild-right}
@@ -32,9 +32,10 @@ use Rattle.plan.specs.declared.Plan.{Plan}
 use Rattle.plan.specs.declared.Planned.{Planned}
 use Rattle.plan.specs.declared.Answer.{Answer}
 use Rattle.plan.specs.declared.Answer.the-variants.{Done, Refused}
-use Rattle.plan.specs.Codes.{codeOf, InRange, front}
+use Rattle.plan.specs.Codes.{codeOf, InRange, front, Sound}
 use Rattle.plan.specs.Plans.{said, IsListed}
 use Rattle.plan.proofs.Codes.{code-proper}
+use Rattle.plan.proofs.Fronts.{sound-met}
 use Rattle.plan.proofs.Listings.{Listed, listOf-listed, entry-below, entry-coef, entry-positive, listed-sum}
 use Rattle.shape.specs.declared.Stood.{Stood}
 use Rattle.repairs.specs.declared.Rebuilt.{Rebuilt}
@@ -47,7 +48,7 @@ use Rattle.store.specs.Answers.{spoken, named}
 use Rattle.store.specs.Store as Store
 use Rattle.store.specs.Store.{Encode, Lose, Repair, Rebuild, Correct, Fetch}
 use Rattle.demands.specs.Runs.{Between}
-use Rattle.demands.specs.Demand2.{SoundCall, Decided, GivesBack}
+use Rattle.demands.specs.Demand2.{Decided, GivesBack}
 use Rattle.demands.proofs.Outcomes.{repairs-stale, rebuilds-stale, corrects-stale, fetches-stale}
 
 -- ---- answers and their numbers
@@ -112,12 +113,8 @@ module _ (l : Layout) (st : Standing) (P : Type 0) where
   front-0 : (q : Call) → First (front l st P ++ needs (codeOf l (st .len)) (marked (st .lost)) q) (refused (by 0)) → ⊥
   front-0 q = nor 6 (omega arith) (nor 7 (omega arith) (nor 8 (omega arith) (needs-0 (codeOf l (st .len)) (marked (st .lost)) q)))
 
-  -- the needs of a sound call are met
-  met : SoundCall l st P → All-met (front l st P)
-  met sound = also (sound .given) (also (sound .size) (also (sound .unmarked) none))
-
 -- in a sound call a block has a plan exactly if it is a fixed linear combination of surviving blocks
-fixed : {l : Layout} {st : Standing} {P : Type 0} → SoundCall l st P
+fixed : {l : Layout} {st : Standing} {P : Type 0} → Sound l st P
     → (b : ℕ) → HasPlan (codeOf l (st .len)) (marked (st .lost)) b ↔ Fixed (codeOf l (st .len)) (marked (st .lost)) b
 fixed {l} {st} sound = fixed-iff (codeOf l (st .len)) (code-proper l (sound .given) (st .len)) (marked (st .lost))
 
@@ -156,12 +153,12 @@ module _ {l : Layout} {st st′ : Standing} {xs ys : List ℕ} {r : Said} where
 
   -- "In a sound call a lost block is refused exactly if it is no fixed linear combination of surviving blocks. Otherwise the plan's coefficients give that
   -- block back for all data, and that is what gets written.": a repair
-  pub demand-2-repair : {b : ℕ} → SoundCall l st (Sized l (st .len) (length xs)) → b < blocks l → marked (st .lost) b ≡ true
+  pub demand-2-repair : {b : ℕ} → Sound l st (Sized l (st .len) (length xs)) → b < blocks l → marked (st .lost) b ≡ true
       → Repair l st xs b r st′ ys
       → Decided (codeOf l (st .len)) (marked (st .lost)) b (r .number ≡ 14) (r .number ≡ 0)
       (Written (codeOf l (st .len)) (stripeOf st xs) b (λ x. getD ys (b * st .len + x) 0))
   demand-2-repair {b} sound below lost h =
-      at (Codes.demand-2 (codeOf l (st .len)) (code-proper l (sound .given) (st .len)) (said (h .answer)) below lost (sound-step (met l st _ sound) .0 (h .does .outcome)))
+      at (Codes.demand-2 (codeOf l (st .len)) (code-proper l (sound .given) (st .len)) (said (h .answer)) below lost (sound-step (sound-met sound) .0 (h .does .outcome)))
     where
       at : Demands.Decided (codeOf l (st .len)) (stripeOf st xs) b (said (h .answer)) (λ x. getD ys (b * st′ .len + x) 0)
           → Decided (codeOf l (st .len)) (marked (st .lost)) b (r .number ≡ 14) (r .number ≡ 0)
@@ -175,14 +172,14 @@ module _ {l : Layout} {st st′ : Standing} {xs ys : List ℕ} {r : Said} where
           )
 
 -- the same of a fetch, into a spare of L bytes
-pub demand-2-fetch : {l : Layout} {st : Standing} {xs old new : List ℕ} {b : ℕ} {r : Answer} → SoundCall l st (Sized l (st .len) (length xs))
+pub demand-2-fetch : {l : Layout} {st : Standing} {xs old new : List ℕ} {b : ℕ} {r : Answer} → Sound l st (Sized l (st .len) (length xs))
     → b < blocks l → marked (st .lost) b ≡ true → length old ≡ st .len → Fetch l st xs old b r new
     → Decided (codeOf l (st .len)) (marked (st .lost)) b (r ≡ Refused 14) (r ≡ Done)
     (Written (codeOf l (st .len)) (stripeOf st xs) b (λ x. getD new x 0))
 demand-2-fetch {l} {st} {xs} {old} {new} {b} {r} sound below lost room h = at (Codes.demand-2-fetch (codeOf l (st .len)) (code-proper l (sound .given) (st .len)) (said r) below lost room fetched)
   where
     fetched : Calls.Fetch [] (codeOf l (st .len)) (stripeOf st xs) b old (said r) (stripeOf st xs) new
-    fetched = record { outcome = sound-step (met l st _ sound) .0 (h .fetch .outcome); spare = h .fetch .spare }
+    fetched = record { outcome = sound-step (sound-met sound) .0 (h .fetch .outcome); spare = h .fetch .spare }
 
     at : Demands.Decided (codeOf l (st .len)) (stripeOf st xs) b (said r) (λ x. getD new x 0)
         → Decided (codeOf l (st .len)) (marked (st .lost)) b (r ≡ Refused 14) (r ≡ Done)
@@ -223,7 +220,7 @@ module _ (l : Layout) (given : Given l) (L lost b : ℕ) (below : b < blocks l) 
           absurd (omega (arith, entry-positive entries j k, entry-coef entries j k, no-lost (getD (p .block) j 0) (entry-below entries j k) e))
 
 -- the same of the plan asked for: what is listed gives the block back for all data
-pub demand-2-plan : {l : Layout} {st : Standing} {b : ℕ} {r : Planned} → SoundCall l st (InRange (st .len)) → b < blocks l → marked (st .lost) b ≡ true
+pub demand-2-plan : {l : Layout} {st : Standing} {b : ℕ} {r : Planned} → Sound l st (InRange (st .len)) → b < blocks l → marked (st .lost) b ≡ true
     → Store.Plan l st b r
     → Decided (codeOf l (st .len)) (marked (st .lost)) b (r .answer ≡ Refused 14) (r .answer ≡ Done) (GivesBack l (st .len) (st .lost) b (r .plan))
 demand-2-plan {l} {st} {b} {r} sound below lost h = at (past lost (past below (past (sound .unmarked) (past (sound .size) (past (sound .given) (h .verdict .first))))))
@@ -254,7 +251,7 @@ named-lowest c lost (NoPlan b) v n =
 
 module _ {l : Layout} {st st′ : Standing} {xs ys : List ℕ} {r : Said} where
   -- a rebuild is accepted exactly if every lost block is a fixed linear combination of surviving blocks
-  pub demand-2-rebuild : SoundCall l st (Sized l (st .len) (length xs)) → Rebuild l st xs r st′ ys
+  pub demand-2-rebuild : Sound l st (Sized l (st .len) (length xs)) → Rebuild l st xs r st′ ys
       → (r .number ≡ 0) ↔ ((b : ℕ) → b < blocks l → marked (st .lost) b ≡ true → Fixed (codeOf l (st .len)) (marked (st .lost)) b)
   demand-2-rebuild sound h = (
     λ e b m o. fixed sound b .0 (iff .0 (as-done step (rebuilt-done h e) .verdict) b m o),
@@ -262,19 +259,19 @@ module _ {l : Layout} {st st′ : Standing} {xs ys : List ℕ} {r : Said} where
   )
     where
       step : Step (codeOf l (st .len)) (stripeOf st xs) rebuild (told (h .answer)) (stripeOf st′ ys)
-      step = sound-step (met l st _ sound) .0 (h .does .outcome)
+      step = sound-step (sound-met sound) .0 (h .does .outcome)
 
       iff : Verdict [] (codeOf l (st .len)) (marked (st .lost)) rebuild done
           ↔ ((b : ℕ) → b < blocks l → marked (st .lost) b ≡ true → HasPlan (codeOf l (st .len)) (marked (st .lost)) b)
       iff = rebuild-done (codeOf l (st .len)) (marked (st .lost))
 
   -- otherwise it is refused by 14, naming the lowest lost block that is none
-  pub demand-2-named : SoundCall l st (Sized l (st .len) (length xs)) → Rebuild l st xs r st′ ys → (r .number ≡ 0 → ⊥)
+  pub demand-2-named : Sound l st (Sized l (st .len) (length xs)) → Rebuild l st xs r st′ ys → (r .number ≡ 0 → ⊥)
       → (r .number ≡ 14) × (r .block < blocks l) × (marked (st .lost) (r .block) ≡ true)
       × (Fixed (codeOf l (st .len)) (marked (st .lost)) (r .block) → ⊥)
       × ((a : ℕ) → a < r .block → marked (st .lost) a ≡ true → Fixed (codeOf l (st .len)) (marked (st .lost)) a)
   demand-2-named sound h n =
-      let x = named-lowest (codeOf l (st .len)) (marked (st .lost)) (h .answer) (sound-step (met l st _ sound) .0 (h .does .outcome) .verdict) (λ e. n (the-number (h .said) ∙ e)) in
+      let x = named-lowest (codeOf l (st .len)) (marked (st .lost)) (h .answer) (sound-step (sound-met sound) .0 (h .does .outcome) .verdict) (λ e. n (the-number (h .said) ∙ e)) in
       let y : Lowest (codeOf l (st .len)) (marked (st .lost)) (r .block) = subst (λ (z : Said). Lowest (codeOf l (st .len)) (marked (st .lost)) (z .block)) (sym (h .said)) (x .1) in
       (the-number (h .said) ∙ x .0, y .below, y .gone, λ f. y .none (fixed sound (r .block) .1 f), λ a k o. fixed sound a .0 (y .least a k o))
 

@@ -14,7 +14,7 @@ use Rattle.calls.specs.Code.{Code, Proper}
 use Rattle.calls.specs.Calls as Calls
 use Rattle.calls.specs.Calls.{Stripe, Call, encode, rebuild, _unless_, by, done, refused, Verdict, Encoded, Outcome, Step}
 use Rattle.calls.specs.Demands.{Alike, Same, Comes, a-loss, a-repair, a-correction, Turn, Run, turn, calls, laidIn, Tidy, Settled, Agree, rising}
-use Rattle.calls.proofs.Needs.{undone, done-met, All-met, none, also}
+use Rattle.calls.proofs.Needs.{undone, done-met}
 use Rattle.calls.proofs.Answers.{sound-step, done-step, repair-met, rebuild-refused}
 use Rattle.calls.proofs.Outcomes.{outcome-alike}
 use Rattle.calls.proofs.Rebuilds.{rebuild-run, repairs-below, alike-self, alike-trans}
@@ -25,11 +25,10 @@ use Rattle.calls.proofs.Orders.{turn-path}
 use Rattle.plan.specs.declared.Standing.{Standing}
 use Rattle.plan.specs.declared.Answer.{Answer}
 use Rattle.plan.specs.declared.Answer.the-variants.{Done, Refused}
-use Rattle.plan.specs.Codes.{codeOf, InRange, front}
-use Rattle.plan.specs.Plans.{said}
-use Rattle.plan.specs.Front.{numbered}
+use Rattle.plan.specs.Codes.{codeOf, InRange, front, Sound}
+use Rattle.plan.specs.Plans.{said, numbered}
 use Rattle.plan.proofs.Codes.{code-proper}
-use Rattle.plan.proofs.Fronts.{Sound}
+use Rattle.plan.proofs.Fronts.{sound-met}
 use Rattle.repairs.specs.declared.Rebuilding.{Rebuilding}
 use Rattle.repairs.specs.declared.Rebuilding.the-variants.{Whole, Denied, NoPlan}
 use Rattle.shape.specs.Shapes.{Sized, stripeOf}
@@ -37,18 +36,10 @@ use Rattle.repairs.specs.Repairs.{told}
 use Rattle.store.specs.declared.Said.{Said}
 use Rattle.store.specs.Answers.{spoken, named}
 use Rattle.store.specs.Store.{Encode, Rebuild}
-use Rattle.demands.specs.Runs.{Between, Runs, rest, loss, mend, amend, Small}
+use Rattle.demands.specs.Runs.{Between, Runs, rest, loss, mend, amend, Small, Stands}
 use Rattle.demands.proofs.Outcomes.{standing-one}
 
 -- ---- a sound state
-
--- the block length is L, and 6, 7 and 8 do not apply to the stripe xs with the standing st
-pub record Stands (l : Layout) (L : ℕ) (st : Standing) (xs : List ℕ) : Type 0 where
-  pub len : st .len ≡ L
-  pub sound : Sound l st (Sized l (st .len) (length xs))
-
-sound-met : {l : Layout} {st : Standing} {P : Type 0} → Sound l st P → All-met (front l st P)
-sound-met s = also (s .given) (also (s .size) (also (s .unmarked) none))
 
 -- a loss is not lent the stripe
 range-sound : {l : Layout} {st : Standing} {size : ℕ} → Sound l st (Sized l (st .len) size) → Sound l st (InRange (st .len))

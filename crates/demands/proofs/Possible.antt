@@ -27,11 +27,10 @@ use Rattle.pieces.proofs.Blocks.{under}
 use Rattle.plan.specs.declared.Standing.{Standing}
 use Rattle.plan.specs.declared.Answer.{Answer}
 use Rattle.plan.specs.declared.Answer.the-variants.{Done, Refused}
-use Rattle.plan.specs.Codes.{codeOf, InRange}
-use Rattle.plan.specs.Front.{numbered, FrontSays}
-use Rattle.plan.specs.Plans.{said}
+use Rattle.plan.specs.Codes.{codeOf, InRange, Sound}
+use Rattle.plan.specs.Plans.{said, numbered}
+use Rattle.plan.specs.Front.{FrontSays}
 use Rattle.plan.proofs.Codes.{code-proper}
-use Rattle.plan.proofs.Fronts.{Sound}
 use Rattle.shape.specs.Shapes.{Sized, stripeOf}
 use Rattle.stripe.proofs.Answers.{loses-9, loses-11, loses-done}
 use Rattle.stripe.proofs.Tops.{corrects-9, corrects-11, corrects-12}
@@ -39,8 +38,8 @@ use Rattle.repairs.proofs.Repairing.{repairs-9, repairs-10}
 use Rattle.store.specs.declared.Said.{Said}
 use Rattle.store.specs.Answers.{spoken}
 use Rattle.store.specs.Store.{Encode, Lose, Repair, Rebuild, Correct}
-use Rattle.demands.specs.Runs.{Between, Runs, rest, loss, mend, amend, Small}
-use Rattle.demands.proofs.Demand3.{Stands, start, passage, rebuilt, demand-3-rebuild}
+use Rattle.demands.specs.Runs.{Between, Runs, rest, loss, mend, amend, Small, Stands, Come, none, a-loss, a-repair, a-correction, Ran, Possible}
+use Rattle.demands.proofs.Demand3.{start, passage, rebuilt, demand-3-rebuild}
 
 -- ---- n blocks of L bytes, one after another
 
@@ -211,22 +210,6 @@ module _ (l : Layout) (st : Standing) (xs : List ℕ) (s : Sound l st (Sized l (
 
 -- ---- lists of calls
 
--- "losses, repairs and corrections", every difference being of bytes
-pub data Come : List Call → Type 0 where
-  none : Come []
-  a-loss : {qs : List Call} (b : ℕ) → Come qs → Come (lose b ∷ qs)
-  a-repair : {qs : List Call} (b : ℕ) → Come qs → Come (repair b ∷ qs)
-  a-correction : {qs : List Call} (i off : ℕ) (d : List ℕ) → Small d → Come qs → Come (correct i off d ∷ qs)
-
--- a run of the calls qs
-pub record Ran (l : Layout) (L : ℕ) (st : Standing) (xs : List ℕ) (qs : List Call) : Type 0 where
-  pub turns : List Turn
-  pub standing : Standing
-  pub stripe : List ℕ
-  pub called : calls turns ≡ qs
-  pub stands : Stands l L standing stripe
-  pub run : Runs l st xs turns standing stripe
-
 -- nothing changed
 alone : {l : Layout} (st : Standing) (xs : List ℕ) → Between l st xs xs
 alone {l} st xs = record { long = refl; alike = alike-self (codeOf l (st .len)) (stripeOf st xs) }
@@ -270,16 +253,6 @@ module _ {l : Layout} {L : ℕ} where
       }
 
 -- ---- demand 3 is of something
-
--- what demand 3 starts from: an accepted encoding, a run of the calls ps, and after it one of the calls qs
-pub record Possible (l : Layout) (st : Standing) (xs : List ℕ) (ps qs : List Call) : Type 0 where
-  pub said : Said
-  pub standing : Standing
-  pub stripe : List ℕ
-  pub encoded : Encode l st xs said standing stripe
-  pub accepted : said .number ≡ 0
-  pub before : Ran l (st .len) standing stripe ps
-  pub list : Ran l (st .len) (before .standing) (before .stripe) qs
 
 -- for every layout that a note gives, every stripe of its size and all lists of losses, repairs and corrections
 pub demand-3-possible : {l : Layout} {ps qs : List Call} (st : Standing) (xs : List ℕ) → Given l → Sized l (st .len) (length xs) → Come ps → Come qs

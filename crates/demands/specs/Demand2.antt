@@ -3,26 +3,18 @@
 use mathlib.Core.Path.{_≡_}
 use mathlib.Core.Logic.{_⊎_}
 use mathlib.Core.Bool.{Bool, true, false}
-use Prim.Native.Nat.{ℕ, _<_, _≤_}
+use Prim.Native.Nat.{ℕ, _<_}
 use lib.ListN.{getD}
 use Rattle.field.specs.Field.{mul}
 use Rattle.linear.specs.Sums.{sumTo}
 use Rattle.groups.specs.declared.Layout.{Layout}
-use Rattle.given.specs.Given.{Given}
 use Rattle.marks.specs.Marks.{marked}
 use Rattle.rows.specs.Rows.{blocks}
 use Rattle.calls.specs.Code.{Code, enc}
 use Rattle.calls.specs.Demands.{Fixed}
-use Rattle.plan.specs.declared.Standing.{Standing}
 use Rattle.plan.specs.declared.Plan.{Plan}
 use Rattle.plan.specs.Codes.{codeOf}
 use Rattle.plan.specs.Plans.{IsListed}
-
--- "a sound call": 6, 7 and 8 do not apply. `sized` is what must hold for 7 not to be given, as the call takes a stripe or L alone
-pub record SoundCall (l : Layout) (st : Standing) (sized : Type 0) : Type 0 where
-  pub given : Given l  -- not 6: some accepted note gives the layout
-  pub size : sized  -- not 7
-  pub unmarked : (b : ℕ) → blocks l ≤ b → marked (st .lost) b ≡ false  -- not 8: no lost mark at n or above
 
 -- block b is "refused exactly if it is no fixed linear combination of surviving blocks. Otherwise .."
 abbrev pub Decided : Code → (ℕ → Bool) → ℕ → Type 0 → Type 0 → Type 0 → Type 0

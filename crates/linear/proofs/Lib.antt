@@ -13,4 +13,3 @@ pub mod Vectors
 pub mod Taking
 pub mod Answers
 pub mod Agreement
-pub mod Certificates

@@ -26,13 +26,13 @@ use Rattle.plan.specs.declared.Plan.{Plan}
 use Rattle.plan.specs.declared.Answer.{Answer}
 use Rattle.plan.specs.declared.Answer.the-variants.{Done, Refused}
 use Rattle.plan.specs.declared.Planned.{Planned}
-use Rattle.plan.specs.Codes.{codeOf, InRange, front}
+use Rattle.plan.specs.Codes.{codeOf, InRange, front, Sound}
 use Rattle.plan.specs.Listing.{blank, listOf}
 use Rattle.plan.specs.Plans.{said, IsListed, refusal, Plans}
 use Rattle.plan.specs.Inner.{Coefficients}
 use Rattle.plan.specs.Front.{FrontSays}
 use Rattle.plan.proofs.Codes.{code-proper}
-use Rattle.plan.proofs.Fronts.{Sound, front-refused}
+use Rattle.plan.proofs.Fronts.{front-refused}
 use Rattle.plan.proofs.Listings.{listOf-less, listOf-cong, tally-less}
 
 -- ---- a test's answer

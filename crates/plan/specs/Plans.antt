@@ -1,10 +1,10 @@
 -- Believed: document 01, "The plan": what is answered to the question for a plan. "Refusals, in order: 6, 7 (L alone), 8, 9, 10, 14": after 6, 7 and 8 a
 -- plan is asked for as a repair is.
 use mathlib.Core.Path.{_≡_}
-use Prim.Native.Nat.{ℕ}
+use Prim.Native.Nat.{ℕ, zero, suc}
 use Rattle.groups.specs.declared.Layout.{Layout}
 use Rattle.marks.specs.Marks.{marked}
-use Rattle.calls.specs.Code.{PlanOf, HasPlan}
+use Rattle.calls.specs.Code.{PlanOf}
 use Rattle.calls.specs.Calls as Calls
 use Rattle.calls.specs.Calls.{Verdict, repair, done, refused, by}
 use Rattle.plan.specs.declared.Standing.{Standing}
@@ -19,6 +19,11 @@ use Rattle.plan.specs.Listing.{blank, listOf}
 abbrev pub said : Answer → Calls.Answer
 said Done = done
 said (Refused number) = refused (by number)
+
+-- the answer that a number is: 0 for accepted
+abbrev pub numbered : ℕ → Calls.Answer
+numbered zero = done
+numbered (suc m) = refused (by (suc m))
 
 -- p is the plan of block b, listed, the marks of `lost` standing: the coefficients are those of the one combination over the kept rows
 pub record IsListed (l : Layout) (L lost b : ℕ) (p : Plan) : Type 0 where

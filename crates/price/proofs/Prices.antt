@@ -1,12 +1,9 @@
--- Proved: which facts make which price, that at most one price fits, and the worked figures.
+-- Proved: which facts make which price, and that at most one price fits.
 use mathlib.Core.Path.{_≡_, refl, sym, ap, _∙_}
 use mathlib.Core.Bool.{Bool, true, false, cond}
 use mathlib.Core.Logic.{_⊎_, inl, inr}
 use Prim.Native.Nat.{ℕ}
 use native.Mathlib.Omega.{arith}
-use lib.IntN.{pos, negsuc}
-use lib.Ieee as Ieee
-use lib.Ieee.{fin}
 use Rattle.groups.specs.declared.Layout.{Layout}
 use Rattle.given.specs.Given.{Given}
 use Rattle.rows.specs.Rows.{blocks}
@@ -86,13 +83,3 @@ priced-unique {l} {limits} {a} {b} p q = at (told a) (told b)
     at (inl x) (inr e) = figures (same ∙ e) e
     at (inr d) (inl y) = figures d (sym same ∙ d)
     at (inr d) (inr e) = figures d e
-
--- ---- the worked figures
-
--- 7 / 4 is 1.75, which is 7 times 2 ^ -2; 8 / 4 is 2.0; and limits that equal both fit
-pub worked :
-    (quotient 7 4 ≡ fin false 7 (negsuc 1))
-    × (quotient 8 4 ≡ fin false 1 (pos 1))
-    × (sheetOf 4 7 8 (record { storage = fin false 7 (negsuc 1); reads = fin false 1 (pos 1) }) ≡ Fits (fin false 7 (negsuc 1)) (fin false 1 (pos 1)))
-unfolding Ieee.div Ieee.ofInt Ieee.lt
-worked = (refl, refl, refl)

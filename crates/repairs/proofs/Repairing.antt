@@ -16,7 +16,7 @@ use Rattle.rows.specs.Rows.{blocks}
 use Rattle.calls.specs.Calls.{stripe, repair, Verdict, Repaired}
 use Rattle.plan.specs.declared.Standing.{Standing}
 use Rattle.plan.specs.declared.Answer.the-variants.{Done, Refused}
-use Rattle.plan.specs.Codes.{codeOf, front}
+use Rattle.plan.specs.Codes.{codeOf, front, Sound}
 use Rattle.plan.specs.Plans.{said}
 use Rattle.plan.specs.Inner.{Coefficients}
 use Rattle.plan.proofs.Codes.{code-proper}
@@ -24,7 +24,7 @@ use Rattle.plan.specs.Front.{FrontSays}
 use Rattle.shape.specs.Front.{refusal}
 use Rattle.pieces.specs.Pieces.{Others, Made}
 use Rattle.shape.specs.Shapes.{Sized}
-use Rattle.plan.proofs.Fronts.{Sound, front-refused}
+use Rattle.plan.proofs.Fronts.{front-refused}
 use Rattle.pieces.proofs.Effects.{repaired, plan-others}
 use Rattle.shape.proofs.Plans.{planned, has-plan}
 use Rattle.repairs.specs.Repairs.{RepairsOne}

@@ -19,7 +19,7 @@ use Rattle.calls.specs.Calls.{stripe, rebuild, Repairs, start, pass, next}
 use Rattle.calls.proofs.Answers.{Lowest, repair-met, rebuild-done, rebuild-named}
 use Rattle.calls.proofs.Rebuilds.{repairs-above, repairs-accepted}
 use Rattle.plan.specs.declared.Standing.{Standing}
-use Rattle.plan.specs.Codes.{codeOf}
+use Rattle.plan.specs.Codes.{codeOf, Sound}
 use Rattle.plan.specs.Inner.{Coefficients}
 use Rattle.plan.proofs.Codes.{code-proper}
 use Rattle.plan.proofs.Verdicts.{not-yes, not-no}
@@ -29,7 +29,7 @@ use Rattle.plan.specs.Front.{FrontSays}
 use Rattle.repairs.specs.Turns.{Mendable, Lacks, LowestIs, Due, Turned, Ready, Restored}
 use Rattle.shape.specs.Shapes.{Sized}
 use Rattle.repairs.specs.Repairs.{RebuildsAll}
-use Rattle.plan.proofs.Fronts.{Sound, front-refused}
+use Rattle.plan.proofs.Fronts.{front-refused}
 use Rattle.shape.proofs.Plans.{has-plan}
 use Rattle.repairs.proofs.Repairing.{mendable, mended}
 

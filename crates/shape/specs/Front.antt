@@ -6,7 +6,7 @@ use Rattle.given.specs.Given.{Given}
 use Rattle.calls.specs.Calls.{First, _unless_, by}
 use Rattle.plan.specs.declared.Standing.{Standing}
 use Rattle.plan.specs.declared.Answer.the-variants.{Refused}
-use Rattle.plan.specs.Front.{numbered}
+use Rattle.plan.specs.Plans.{numbered}
 use Rattle.shape.specs.declared.Stood.{Stood}
 
 -- the first of 6 and 7 that is not met, or 0

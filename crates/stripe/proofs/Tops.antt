@@ -18,7 +18,7 @@ use Rattle.calls.specs.Calls as Calls
 use Rattle.calls.specs.Calls.{fetch, correct, by, done, refused, Verdict}
 use Rattle.plan.specs.declared.Standing.{Standing}
 use Rattle.plan.specs.declared.Answer.the-variants.{Done, Refused}
-use Rattle.plan.specs.Codes.{codeOf, front}
+use Rattle.plan.specs.Codes.{codeOf, front, Sound}
 use Rattle.plan.specs.Plans.{said}
 use Rattle.plan.specs.Inner.{Coefficients}
 use Rattle.plan.specs.Front.{FrontSays}
@@ -26,7 +26,7 @@ use Rattle.pieces.specs.Pieces.{Sources, Gathered}
 use Rattle.corrections.specs.Corrections.{Correctable, CorrectedList}
 use Rattle.shape.specs.Shapes.{Sized}
 use Rattle.stripe.specs.Stripes.{Corrects, Fetches}
-use Rattle.plan.proofs.Fronts.{Sound, front-refused}
+use Rattle.plan.proofs.Fronts.{front-refused}
 use Rattle.pieces.proofs.Combining.{sources}
 use Rattle.pieces.proofs.Effects.{by-plan}
 use Rattle.corrections.proofs.Effects.{corrected}

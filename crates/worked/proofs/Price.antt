@@ -1,23 +1,22 @@
 -- Proved: the price of the depot pair of document 01: T is 8, so that storage is 7 / 4, exactly 1.75, and mean reads are 8 / 4, exactly 2.0.
 use mathlib.Core.Path.{_≡_, refl, subst}
-use mathlib.Core.Bool.{Bool, false}
+use mathlib.Core.Bool.{Bool}
 use mathlib.Core.List.{[], _∷_}
 use Prim.Native.Nat.{ℕ}
-use lib.IntN.{pos, negsuc}
 use lib.Ieee as Ieee
-use lib.Ieee.{Float, fin}
 use Rattle.field.specs.Field.{_⊕_}
 use Rattle.linear.specs.Sets.{count}
 use Rattle.linear.specs.Sums.{put}
-use Rattle.linear.proofs.Certificates.{Term, _times_, coefs}
 use Rattle.note.specs.Tree.{over, overIn, datas, redundants, layoutOf}
 use Rattle.rows.specs.Rows.{blocks}
-use Rattle.rows.proofs.Worked.{depot}
 use Rattle.calls.specs.Code.{PlanOf}
 use Rattle.plan.specs.Codes.{codeOf}
-use Rattle.plan.proofs.Worked.{Case, Right, Each, end, also, lone, lone-right, marksOf, lostSet}
-use Rattle.price.specs.Sheet.{alone, Reads, none, more, quotient}
+use Rattle.price.specs.declared.Price.the-variants.{Fits}
+use Rattle.price.specs.Sheet.{alone, Reads, none, more, quotient, sheetOf}
 use Rattle.price.proofs.Totals.{alone-is}
+use Rattle.worked.specs.Depot.{depot, storage, reads}
+use Rattle.worked.specs.Plans.{_times_, coefs, Case, marksOf, lostSet, Right, Each, end, also}
+use Rattle.worked.proofs.Plans.{lone, lone-right}
 
 -- each data block's plan, lost alone, reads two blocks
 pub depot-reads : Reads depot 4 8
@@ -37,6 +36,11 @@ depot-reads = at lone-right
         (moved 2 (coefs (160 times 3 ∷ 131 times 6 ∷ [])) (c .1)))
         (moved 3 (coefs (28 times 2 ∷ 130 times 6 ∷ [])) (d .1))
 
-pub depot-figures : (quotient (blocks depot) (depot .k) ≡ fin false 7 (negsuc 1)) × (quotient 8 (depot .k) ≡ fin false 1 (pos 1))
-unfolding Ieee.div Ieee.ofInt depot layoutOf datas redundants over overIn
-depot-figures = (refl, refl)
+-- 7 / 4 and 8 / 4 are the document's figures; and limits that equal both fit
+pub worked : (quotient 7 4 ≡ storage) × (quotient 8 4 ≡ reads) × (sheetOf 4 7 8 (record { storage = storage; reads = reads }) ≡ Fits storage reads)
+unfolding Ieee.div Ieee.ofInt Ieee.lt
+worked = (refl, refl, refl)
+
+pub depot-figures : (quotient (blocks depot) (depot .k) ≡ storage) × (quotient 8 (depot .k) ≡ reads)
+unfolding depot layoutOf datas redundants over overIn
+depot-figures = (worked .0, worked .1)

@@ -10,29 +10,16 @@ use lib.Dec.{T, eqb, ltb, eqb→eq, ltb→lt}
 use Rattle.field.specs.Field.{_⊕_, mul}
 use Rattle.field.proofs.Table.{both, both-left, both-right, all, below}
 use Rattle.field.proofs.Xor.{⊕-zero-r, ⊕-lt}
 use Rattle.linear.specs.Sets.{none, insert}
 use Rattle.linear.specs.Sums.{pick, put}
 use Rattle.linear.specs.Combinations.{comb, Combo}
 use Rattle.linear.specs.Greedy.{Kept, begin, keeps, skips, IsPlan}
 use Rattle.linear.specs.Blocks.{dot}
 use Rattle.linear.specs.Solved.{vec}
 use Rattle.linear.proofs.Sums.{put-same, put-other}
 use Rattle.linear.proofs.Combinations.{comb-zero, comb-⊕, comb-one}
 use Rattle.linear.proofs.Data.{apart-by}
-
--- a term of a combination: a coefficient and the block that it multiplies
-pub record Term : Type 0 where
-  pub coef : ℕ
-  pub block : ℕ
-
-infix 80 _times_
-abbrev pub _times_ : ℕ → ℕ → Term
-c times b = record { coef = c; block = b }
-
--- the coefficients of a list of terms, by block number
-unfoldable pub coefs : List Term → ℕ → ℕ
-coefs [] s = 0
-coefs (t ∷ l) s = put (t .block) (t .coef) (λ _. 0) s ⊕ coefs l s
+use Rattle.worked.specs.Plans.{Term, coefs}
 
 -- column i of what the terms come to
 unfoldable pub termSum : (ℕ → ℕ → ℕ) → List Term → ℕ → ℕ

@@ -4,10 +4,9 @@ use mathlib.Core.Path.{_≡_, sym}
 use mathlib.Core.Bool.{Bool, true, false, not}
 use mathlib.Core.List.{List, [], _∷_}
 use Prim.Native.Nat.{ℕ, _+_, _*_, _<_}
-use native.Mathlib.Omega.{arith}
 use lib.Dec.{T, eqb, ltb, eqb→eq, ltb→lt}
 use lib.ListN.{getD}
-use Rattle.field.specs.Field.{_⊕_, double, mulBits, mul, power, inv, coef}
+use Rattle.field.specs.Field.{_⊕_, double, mulBits, mul}
 use Rattle.field.proofs.Table.{both, both-left, both-right, all, below}
 use Rattle.linear.specs.Sets.{insert, count}
 use Rattle.linear.specs.Sums.{sumTo, put}
@@ -16,78 +15,15 @@ use Rattle.linear.specs.Blocks.{dot}
 use Rattle.linear.specs.Solved.{vec}
 use Rattle.linear.proofs.Combinations.{combo-cong}
 use Rattle.linear.proofs.Agreement.{combo-agree, plan-agree}
-use Rattle.linear.proofs.Certificates.{Term, _times_, coefs, termSum, makes, tells, Reason, kept, passed, placeAfter, plans, combo-by-terms, none-by-data, plan-by-terms}
 use Rattle.note.specs.Tree.{over, overIn, notesIn, datas, datasIn, redundants, redundantsIn, size, sizeIn, groupsOf, groupsIn, layoutOf}
 use Rattle.marks.specs.Marks.{marked, withMark}
 use Rattle.rows.specs.Rows.{among, owns, homeBelow, home, inside, part, rowNumber, row, holds}
 use Rattle.visits.specs.Visits.{meetBelow, step, atStep, visitsBelow, visits}
-use Rattle.rows.proofs.Worked.{depot}
-use Rattle.calls.specs.Code.{Code, alive, HasPlan, PlanOf}
-use Rattle.plan.specs.Codes.{codeOf}
-
--- ---- what document 01 says
-
-abbrev pub code : Code
-code = codeOf depot 1
-
--- the marks of the blocks listed
-unfoldable pub marksOf : List ℕ → ℕ
-marksOf [] = 0
-marksOf (b ∷ bs) = withMark (marksOf bs) b
-
-abbrev pub lostSet : List ℕ → ℕ → Bool
-lostSet lost = marked (marksOf lost)
-
--- of a lost block: its plan, by coefficients and blocks, or that it has none
-pub data Says : Type 0 where
-  by : List Term → Says
-  nothing : Says
-
-pub record Case : Type 0 where
-  pub lost : List ℕ
-  pub block : ℕ
-  pub says : Says
-
--- lost {0}: plan 26 x block 1 + 129 x block 5. Lost {0, 1}, {0, 1, 2}, {0, 2, 4}: all have plans. Lost {0, 1, 5}: none has. Lost {0, 1, 5, 6}: only
--- 6 has
-abbrev pub cases : List Case
-cases =
-    record { lost = 0 ∷ []; block = 0; says = by (26 times 1 ∷ 129 times 5 ∷ []) }
-    ∷ record { lost = 0 ∷ 1 ∷ []; block = 0; says = by (53 times 2 ∷ 22 times 3 ∷ 245 times 4 ∷ 102 times 5 ∷ []) }
-    ∷ record { lost = 0 ∷ 1 ∷ []; block = 1; says = by (87 times 2 ∷ 218 times 3 ∷ 102 times 4 ∷ 245 times 5 ∷ []) }
-    ∷ record { lost = 0 ∷ 1 ∷ 2 ∷ []; block = 0; says = by (103 times 3 ∷ 245 times 4 ∷ 102 times 5 ∷ 192 times 6 ∷ []) }
-    ∷ record { lost = 0 ∷ 1 ∷ 2 ∷ []; block = 1; says = by (32 times 3 ∷ 102 times 4 ∷ 245 times 5 ∷ 49 times 6 ∷ []) }
-    ∷ record { lost = 0 ∷ 1 ∷ 2 ∷ []; block = 2; says = by (160 times 3 ∷ 131 times 6 ∷ []) }
-    ∷ record { lost = 0 ∷ 2 ∷ 4 ∷ []; block = 0; says = by (26 times 1 ∷ 129 times 5 ∷ []) }
-    ∷ record { lost = 0 ∷ 2 ∷ 4 ∷ []; block = 2; says = by (160 times 3 ∷ 131 times 6 ∷ []) }
-    ∷ record { lost = 0 ∷ 2 ∷ 4 ∷ []; block = 4; says = by (23 times 1 ∷ 218 times 3 ∷ 26 times 5 ∷ 160 times 6 ∷ []) }
-    ∷ record { lost = 0 ∷ 1 ∷ 5 ∷ []; block = 0; says = nothing }
-    ∷ record { lost = 0 ∷ 1 ∷ 5 ∷ []; block = 1; says = nothing }
-    ∷ record { lost = 0 ∷ 1 ∷ 5 ∷ []; block = 5; says = nothing }
-    ∷ record { lost = 0 ∷ 1 ∷ 5 ∷ 6 ∷ []; block = 0; says = nothing }
-    ∷ record { lost = 0 ∷ 1 ∷ 5 ∷ 6 ∷ []; block = 1; says = nothing }
-    ∷ record { lost = 0 ∷ 1 ∷ 5 ∷ 6 ∷ []; block = 5; says = nothing }
-    ∷ record { lost = 0 ∷ 1 ∷ 5 ∷ 6 ∷ []; block = 6; says = by (29 times 2 ∷ 161 times 3 ∷ []) }
-    ∷ []
-
--- each data block lost alone, of which the price sheet sums the reads
-abbrev pub lone : List Case
-lone =
-    record { lost = 0 ∷ []; block = 0; says = by (26 times 1 ∷ 129 times 5 ∷ []) }
-    ∷ record { lost = 1 ∷ []; block = 1; says = by (85 times 0 ∷ 128 times 5 ∷ []) }
-    ∷ record { lost = 2 ∷ []; block = 2; says = by (160 times 3 ∷ 131 times 6 ∷ []) }
-    ∷ record { lost = 3 ∷ []; block = 3; says = by (28 times 2 ∷ 130 times 6 ∷ []) }
-    ∷ []
-
--- what is said is so: the block has a plan, and the terms are its plan; or it has none
-abbrev pub Right : List ℕ → ℕ → Says → Type 0
-Right lost b (by l) = HasPlan code (lostSet lost) b × PlanOf code (lostSet lost) b (coefs l)
-Right lost b nothing = HasPlan code (lostSet lost) b → ⊥
-
--- P holds of each of the list
-pub data Each {A : Type 0} (P : A → Type 0) : List A → Type 0 where
-  end : Each P []
-  also : {x : A} {xs : List A} → P x → Each P xs → Each P (x ∷ xs)
+use Rattle.calls.specs.Code.{alive}
+use Rattle.worked.specs.Depot.{depot}
+use Rattle.worked.specs.Plans.{Term, _times_, Says, by, nothing, Case, cases, code, marksOf, lostSet, Right, Each, end, also}
+use Rattle.worked.proofs.Rows.{depot-coefs}
+use Rattle.worked.proofs.Certificates.{termSum, makes, tells, Reason, kept, passed, placeAfter, plans, combo-by-terms, none-by-data, plan-by-terms}
 
 -- ---- the tests
 
@@ -107,8 +43,8 @@ abbrev entry : ℕ → ℕ → ℕ
 entry b i = getD table (b * 4 + i) 0
 
 table-test : T (all (λ b. all (λ i. eqb (row depot b i) (entry b i)) 4) 7)
-unfolding table row part inside rowNumber home homeBelow owns among put coef inv power mul mulBits double _⊕_ depot layoutOf groupsOf groupsIn datas datasIn redundants redundantsIn size sizeIn notesIn over overIn
-table-test = tt
+unfolding table row part inside rowNumber home homeBelow owns among put depot layoutOf groupsOf groupsIn datas datasIn redundants redundantsIn size sizeIn notesIn over overIn
+table-test = rw (depot-coefs .0, depot-coefs .1, depot-coefs .2, depot-coefs .3, depot-coefs .4, depot-coefs .5, depot-coefs .6, depot-coefs .7) tt
 
 table-right : (b i : ℕ) → b < 7 → i < 4 → row depot b i ≡ entry b i
 table-right b i h k =
@@ -218,6 +154,15 @@ grounds =
     ∷ apart (85 ∷ 1 ∷ [])
     ∷ apart (85 ∷ 1 ∷ [])
     ∷ choice (2 ∷ 3 ∷ 4 ∷ []) (kept (0 ∷ 0 ∷ 1 ∷ []) ∷ kept (0 ∷ 0 ∷ 0 ∷ 1 ∷ []) ∷ kept (1 ∷ []) ∷ [])
+    ∷ []
+
+-- each data block lost alone, of which the price sheet sums the reads
+abbrev pub lone : List Case
+lone =
+    record { lost = 0 ∷ []; block = 0; says = by (26 times 1 ∷ 129 times 5 ∷ []) }
+    ∷ record { lost = 1 ∷ []; block = 1; says = by (85 times 0 ∷ 128 times 5 ∷ []) }
+    ∷ record { lost = 2 ∷ []; block = 2; says = by (160 times 3 ∷ 131 times 6 ∷ []) }
+    ∷ record { lost = 3 ∷ []; block = 3; says = by (28 times 2 ∷ 130 times 6 ∷ []) }
     ∷ []
 
 abbrev loneGrounds : List Grounds

@@ -4,22 +4,18 @@ use mathlib.Core.Path.{_≡_, refl}
 use mathlib.Core.Bool.{_||_}
 use mathlib.Core.List.{[], _∷_, map}
 use lib.Dec.{eqb}
-use Rattle.groups.specs.declared.Layout.{Layout}
 use Rattle.note.specs.Tree.{leaf, branch, pair, over, overIn, notesIn, datas, datasIn, redundants, redundantsIn, size, sizeIn, groupsOf, groupsIn, layoutOf}
 use Rattle.rows.specs.Rows.{among, owns, homeBelow, home, holds}
-use Rattle.rows.proofs.Worked.{depot}
 use Rattle.visits.specs.Visits.{meetBelow, step, atStep, visitsBelow, visits}
+use Rattle.worked.specs.Depot.{depot}
 
 pub depot-visits : visits depot (λ s. eqb s 0) 0 ≡ 1 ∷ 5 ∷ 2 ∷ 3 ∷ 4 ∷ 6 ∷ []
 unfolding visits visitsBelow atStep step meetBelow holds home homeBelow owns among depot layoutOf groupsOf groupsIn datas datasIn redundants redundantsIn size sizeIn notesIn over overIn
 depot-visits = refl
 
--- two leaf groups of four data blocks and one redundant block each, and two redundant blocks over both
-unfoldable pub twelve : Layout
-twelve = layoutOf (branch 2 (pair (leaf 1 4) (leaf 1 4)))
-
--- blocks 0, 4 and 5 lost: block 0 and block 4 each come to their own leaf first
-pub twelve-visits : map (visits twelve (λ s. eqb s 0 || eqb s 4 || eqb s 5)) (0 ∷ 4 ∷ [])
+-- two leaf groups of four data blocks and one redundant block each, and two redundant blocks over both; blocks 0, 4 and 5 lost: block 0 and block 4
+-- each come to their own leaf first
+pub twelve-visits : map (visits (layoutOf (branch 2 (pair (leaf 1 4) (leaf 1 4)))) (λ s. eqb s 0 || eqb s 4 || eqb s 5)) (0 ∷ 4 ∷ [])
     ≡ (1 ∷ 2 ∷ 3 ∷ 10 ∷ 6 ∷ 7 ∷ 8 ∷ 9 ∷ 11 ∷ []) ∷ (6 ∷ 7 ∷ 11 ∷ 1 ∷ 2 ∷ 3 ∷ 8 ∷ 9 ∷ 10 ∷ []) ∷ []
-unfolding visits visitsBelow atStep step meetBelow holds home homeBelow owns among twelve layoutOf groupsOf groupsIn datas datasIn redundants redundantsIn size sizeIn notesIn over overIn
+unfolding visits visitsBelow atStep step meetBelow holds home homeBelow owns among layoutOf groupsOf groupsIn datas datasIn redundants redundantsIn size sizeIn notesIn over overIn
 twelve-visits = refl

@@ -1,0 +1,2 @@
+pub mod Depot
+pub mod Plans

@@ -1,0 +1,1 @@
+// No code: what document 01 works through of a depot pair, against the definitions.
