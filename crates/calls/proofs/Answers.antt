@@ -12,7 +12,7 @@ use Rattle.linear.proofs.Sets.{in-and-out}
 use Rattle.calls.specs.Code.{Code, Proper, HasPlan}
 use Rattle.calls.specs.Calls.{Stripe, Call, encode, lose, repair, rebuild, correct, fetch, Refusal, naming, Answer, done, refused, Need, _unless_, First, needs, Verdict, Outcome, Step}
 use Rattle.calls.proofs.Plans.{has-plan-dec}
-use Rattle.calls.proofs.Needs.{undone, first-unique, Decidable, decided, and-this, first-exists, decidable-append, decidable-each, All-met, done-met, first-sound, first-unsound, first-done, each-done, each-refused, each-least, need-replaced, same-mark}
+use Rattle.calls.proofs.Needs.{undone, first-unique, Decidable, decided, and-this, first-exists, decidable-append, decidable-each, All-met, done-met, first-sound, first-done, each-done, each-refused, each-least, need-replaced, same-mark}
 
 -- ---- verdicts
 
@@ -40,10 +40,6 @@ sound-step {c = c} {s = s} {q = q} {a = a} m =
 -- so is an accepted outcome
 pub done-step : {front : List Need} {c : Code} {s t : Stripe} {q : Call} → Outcome front c s q done t → Step c s q done t
 done-step o = record { verdict = verdict-done (o .verdict); effect = o .effect }
-
--- a call that is not sound is answered by 6, 7 and 8 alone
-pub unsound : {front : List Need} {c : Code} {lost : ℕ → Bool} {q : Call} {a : Answer} → (All-met front → ⊥) → Verdict front c lost q a → First front a
-unsound {front} {c} {lost} {q} {a} h v = first-unsound front (needs c lost q) a h (v .first)
 
 module _ {front : List Need} {c : Code} {lost : ℕ → Bool} where
   pub repair-met : {b : ℕ} → Verdict front c lost (repair b) done → (b < c .n) × (lost b ≡ true) × HasPlan c lost b

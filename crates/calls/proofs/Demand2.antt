@@ -51,12 +51,6 @@ module _ (c : Code) (p : Proper c) where
 
   -- ---- independent rows
 
-  -- THE SPAN OF THE SURVIVORS' ROWS IS THE SAME BEFORE AND AFTER A REPAIR
-  pub repair-span : {s t : Stripe} {b : ℕ} → Step c s (repair b) done t → (v : ℕ → ℕ) → Span c (t .lost) v ↔ Span c (s .lost) v
-  repair-span {b = b} S v =
-      let m = repair-met (S .verdict) in
-      span-repair c b (m .0) (m .2) (S .effect .mark) (S .effect .marks)
-
   -- "The number of independent rows among the survivors is the same before and after a repair."
   pub repair-rank : {s t : Stripe} {b r q : ℕ} → Step c s (repair b) done t → Independents c (s .lost) r → Independents c (t .lost) q → r ≡ q
   repair-rank {s} {t} {b} S =

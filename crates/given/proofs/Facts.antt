@@ -208,6 +208,7 @@ given-proper l g = let r = given-tree l g in subst Proper (sym (r .2)) (proper (
 
 -- ---- groups that hold groups
 
+-- holding is an order on the groups of a layout; `holds-itself` and `holds-trans` are for the reader of `Holds`, nothing cites them
 module _ (l : Layout) (p : Proper l) where
   pub holds-itself : (x : ℕ) → x < l .groups → Holds l x x
   holds-itself x h = let q = p .each x h .itself in record { from = omega arith; to = omega arith }

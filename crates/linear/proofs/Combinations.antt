@@ -71,20 +71,6 @@ module _ (n : ℕ) where
 -- ---- combinations of the rows that a set names
 
 module _ (n w : ℕ) (R : ℕ → ℕ → ℕ) where
-  pub combo-zero : (S : ℕ → Bool) → Combo n w R S (λ _. 0)
-  combo-zero S =
-      record { coef = λ _. 0; out = λ s l o. refl; sum = λ i l. sym (comb-zero n (λ _. 0) R i (λ s k. refl)) }
-
-  -- v ⊕ a u
-  pub combo-add : {S : ℕ → Bool} {v u : ℕ → ℕ} (a : ℕ) → Combo n w R S v → Combo n w R S u → Combo n w R S (λ i. v i ⊕ mul a (u i))
-  combo-add a x y =
-      record {
-        coef = λ s. x .coef s ⊕ mul a (y .coef s);
-        out = λ s l o. ap₂ _⊕_ (x .out s l o) (ap (mul a) (y .out s l o) ∙ mul-zero-r a) ∙ ⊕-zero-r 0;
-        sum = λ i l. ap₂ _⊕_ (x .sum i l) (ap (mul a) (y .sum i l) ∙ sym (comb-scale n a (y .coef) R i))
-            ∙ sym (comb-⊕ n (x .coef) (λ s. mul a (y .coef s)) R i);
-      }
-
   -- a row that the set names
   pub combo-row : {S : ℕ → Bool} (b : ℕ) → b < n → S b ≡ true → ((i : ℕ) → R b i < 256) → Combo n w R S (R b)
   combo-row {S} b l t f =

@@ -96,16 +96,6 @@ put-parts b x f s = at (eqb s b)
     at true = sym (⊕-zero-l x)
     at false = sym (⊕-zero-r (f s))
 
-pub sum-put : (m b x : ℕ) (f : ℕ → ℕ) → b < m → sumTo m (put b x f) ≡ sumTo m (put b 0 f) ⊕ x
-sum-put m b x f l =
-    sum-cong m (λ s k. put-parts b x f s)
-    ∙ sum-⊕ m (put b 0 f) (put b x (λ _. 0))
-    ∙ ap (λ (y : ℕ). sumTo m (put b 0 f) ⊕ y)
-    (sum-single m b (put b x (λ _. 0)) l (λ j k n. put-other b x (λ _. 0) j n) ∙ put-same b x (λ _. 0))
-
-pub sum-split : (m b : ℕ) (f : ℕ → ℕ) → b < m → sumTo m f ≡ sumTo m (put b 0 f) ⊕ f b
-sum-split m b f l = sum-cong m (λ s k. put-self b f s) ∙ sum-put m b (f b) f l
-
 -- ---- one at a place
 
 pub put-none : (b s : ℕ) → put b 0 (λ _. 0) s ≡ 0

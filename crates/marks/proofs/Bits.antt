@@ -1,5 +1,5 @@
--- Proved: marks are sets. Marking inserts one block and unmarking removes one, marks stay within 64 bits, two numbers with the same marks are one
--- number, and `noneFrom` tells what its name says.
+-- Proved: marks are sets. Marking inserts one block and unmarking removes one, two numbers with the same marks are one number, and `noneFrom` tells what
+-- its name says.
 use mathlib.Core.Path.{_≡_, refl, sym, ap, _∙_}
 use mathlib.Core.Bool.{Bool, true, false, not}
 use mathlib.Core.Logic.{_↔_}
@@ -89,27 +89,6 @@ pub marked-zero : (s : ℕ) → marked 0 s ≡ false
 unfolding marked
 marked-zero s = rw (zero-div (2 ^ s))
 
--- ---- 64 bits
-
-turned-lt : (m b : ℕ) → m < 2 ^ 64 → b < 64 → m ⊕ 2 ^ b < 2 ^ 64
-turned-lt m b h l = ⊕-bits 64 m (2 ^ b) h (pow-above b 64 l)
-
-pub with-lt : (m b : ℕ) → m < 2 ^ 64 → b < 64 → withMark m b < 2 ^ 64
-unfolding withMark
-with-lt m b h l = at (marked m b)
-  where
-    at : (t : Bool) → choose t m (m ⊕ 2 ^ b) < 2 ^ 64
-    at true = h
-    at false = turned-lt m b h l
-
-pub without-lt : (m b : ℕ) → m < 2 ^ 64 → b < 64 → withoutMark m b < 2 ^ 64
-unfolding withoutMark
-without-lt m b h l = at (marked m b)
-  where
-    at : (t : Bool) → choose t (m ⊕ 2 ^ b) m < 2 ^ 64
-    at true = turned-lt m b h l
-    at false = h
-
 -- ---- the marks from a block on
 
 -- the marks of m from n on are those of m / 2 ^ n
@@ -167,8 +146,3 @@ past-none m n h =
 
 pub none-from : (m n : ℕ) → noneFrom m n ≡ true ↔ ((b : ℕ) → n ≤ b → marked m b ≡ false)
 none-from m n = (none-past m n, past-none m n)
-
--- a number of 64 bits has no mark from 64 on
-pub marked-lt : (m : ℕ) → m < 2 ^ 64 → (b : ℕ) → 64 ≤ b → marked m b ≡ false
-unfolding noneFrom
-marked-lt m h = none-past m 64 (lt-ltb m (2 ^ 64) h)

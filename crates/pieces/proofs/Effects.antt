@@ -103,36 +103,6 @@ plan-others {coef} {xs} {len} {b} c p lost l o P h k w =
 
 -- ---- bytes that are never read
 
--- two stripes agree in every block whose coefficient is not zero
-pub record AlikeFor (coef : List ℕ) (len : ℕ) (xs xs′ : List ℕ) : Type 0 where
-  pub bytes : (s x : ℕ) → s < length coef → (getD coef s 0 ≡ 0 → ⊥) → x < len → byteOf len xs′ s x ≡ byteOf len xs s x
-
--- two that agree on the survivors do so for any plan
-pub survivors-alike : {coef xs xs′ : List ℕ} {len b : ℕ} (c : Code) → Proper c → c .L ≡ len → (lost : ℕ → Bool) → b < c .n → Planned c lost b coef
-    → Alike c (stripe len lost xs) (stripe len lost xs′) → AlikeFor coef len xs xs′
-survivors-alike {coef} {xs} {xs′} {len} {b} c p e lost l P A = record { bytes = λ s x h z m. at s x h z m (decLt s (c .n)) (lost s) refl }
-  where
-    at : (s x : ℕ) → s < length coef → (getD coef s 0 ≡ 0 → ⊥) → x < len → Dec (s < c .n) → (t : Bool) → lost s ≡ t
-        → byteOf len xs′ s x ≡ byteOf len xs s x
-    at s x h z m (yes k) true o = absurd (z (plan-none c p lost b l (P .plan) s k o))
-    at s x h z m (yes k) false o = A .bytes s x k o (omega (arith, e))
-    at s x h z m (no k) t o = absurd (z (P .past s (omega arith) h))
-
-module _ {coef xs xs′ : List ℕ} {len : ℕ} (A : AlikeFor coef len xs xs′) where
-  comb-alike : (x : ℕ) → x < len → comb (length coef) (vec coef) (byteOf len xs′) x ≡ comb (length coef) (vec coef) (byteOf len xs) x
-  comb-alike x l = comb-agree (length coef) (vec coef) (byteOf len xs′) (byteOf len xs) x (λ s h z. A .bytes s x h z l)
-
-  -- give the same block into the spare
-  pub gathered-alike : {r r′ : List ℕ} → Gathered coef xs len r → Gathered coef xs′ len r′ → r′ ≡ r
-  gathered-alike {r} {r′} G H =
-      ext-getD 0 r′ r (H .long ∙ sym (G .long))
-      (λ x l. let h : x < len = omega (arith, H .long) in H .at x h ∙ comb-alike x h ∙ sym (G .at x h))
-
-  -- and the same block in its place
-  pub made-alike : {ys ys′ : List ℕ} {b : ℕ} → Made coef len b xs ys → Made coef len b xs′ ys′ → (x : ℕ) → x < len
-      → byteOf len ys′ b x ≡ byteOf len ys b x
-  made-alike M N x l = N .block x l ∙ comb-alike x l ∙ sym (M .block x l)
-
 -- stripes with the same data are encoded alike
 pub encoded-alike : {rows xs xs′ ys ys′ : List ℕ} {k n len : ℕ} → Encodable rows xs k n len
     → ((p : ℕ) → p < k * len → getD xs′ p 0 ≡ getD xs p 0) → EncodedList rows len k n xs ys → EncodedList rows len k n xs′ ys′

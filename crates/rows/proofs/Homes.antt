@@ -196,10 +196,6 @@ module _ (l : Layout) (given : Given l) where
       → (l .k + groupAt l (home l b) .redundant ≤ b) × (b < l .k + groupAt l (home l b) .redundant + groupAt l (home l b) .h)
   home-redundant b h k = owned-redundant l (home l b) b h (home-owns b k)
 
-  -- "A group's rows start at the sum of the h of all groups round it."
-  pub rows-start : (x : ℕ) → x < l .groups → groupAt l x .row ≡ rowsRound (l .list) x
-  rows-start x h = proper .each x h .row
-
   -- a redundant block's row is one of its group's rows, and so one of 16
   pub row-number-lt : (b : ℕ) → l .k ≤ b → b < blocks l → rowNumber l b < 16
   unfolding rowNumber

@@ -142,7 +142,7 @@ module _ (l : Layout) (given : Given l) where
 
   -- ---- inside a group
 
-  -- a data block is inside a group exactly if the group holds its home, itself or nested
+  -- a data block is inside a group exactly if the group holds its home, itself or nested: for the reader of `inside`; nothing cites it
   pub inside-home : (x i : ℕ) → x < l .groups → i < l .k → inside l x i ≡ holds l x (home l i)
   unfolding inside
   inside-home x i h k = at (holds l x (home l i)) refl

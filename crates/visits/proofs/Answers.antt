@@ -1,5 +1,4 @@
--- Proved: at most one answer fits the contract of `visit`, and what is answered is what `solve` asks: survivors that are rows of a whole matrix, all
--- of them and no lost block.
+-- Proved: at most one answer fits the contract of `visit`, and what is answered is what `solve` asks: survivors that are rows of a whole matrix.
 use mathlib.Core.Path.{_≡_, sym, _∙_, ap}
 use mathlib.Core.List.{List, _++_}
 use mathlib.Core.Bool.{Bool, false, not}
@@ -43,9 +42,6 @@ listed-at xs v a p = ap (λ (bs : List ℕ). getD bs p 0) (a .blocks) ∙ at (de
         getD-behind xs _ p k ∙ zeros-at (48 - length xs) (p - length xs) ∙ sym (List·getD-eq-default xs 0 k)
 
 module _ (l : Layout) (given : Given l) (lost : ℕ → Bool) (b : ℕ) (v : Visits) (a : Listed (visits l lost b) v) where
-  same-order : vec (v .blocks) ≡ vec (visits l lost b)
-  same-order = λ i p. listed-at (visits l lost b) v a p i
-
   -- what `matrix` writes and `visit` answers may be handed to `solve`
   pub survivors : (rows : List ℕ) → Matrix l rows → Survivors rows (v .blocks) (v .count)
   survivors rows m =
@@ -58,10 +54,3 @@ module _ (l : Layout) (given : Given l) (lost : ℕ → Bool) (b : ℕ) (v : Vis
         below = λ p h.
             omega (arith, listed-at (visits l lost b) v a p, visits-below l given lost b p (omega (arith, a .count)));
       }
-
-  -- the survivors that `solve` is told of are the blocks below n that are not lost
-  pub survivors-are : (s : ℕ) → s < blocks l → visited (vec (v .blocks)) (v .count) s ≡ not (lost s)
-  survivors-are s h = rw (same-order, a .count) (visits-visited l given lost b s h)
-
-  pub survivors-past : (s : ℕ) → blocks l ≤ s → visited (vec (v .blocks)) (v .count) s ≡ false
-  survivors-past s h = rw (same-order, a .count) (visits-past l given lost b s h)
