@@ -1,7 +1,7 @@
 -- Proved: marks are sets. Marking inserts one block and unmarking removes one, two numbers with the same marks are one number, and `noneFrom` tells what
 -- its name says.
 use mathlib.Core.Path.{_≡_, refl, sym, ap, _∙_}
-use mathlib.Core.Bool.{Bool, true, false, not}
+use mathlib.Core.Bool.{Bool, true, false, not, cond}
 use mathlib.Core.Logic.{_↔_}
 use Prim.Native.Nat.{ℕ, suc, _+_, _-_, _*_, _/_, _%_, _^_, _<_, _≤_}
 use native.Mathlib.Nat.{pow-le-pow-right, div-eq-of-lt, div-self, div-one, zero-div, div-div-eq-div-mul, mul-div-cancel, mod-eq-of-lt, lt-div-mul-add, one-mul, zero-mul, zero-add}
@@ -15,7 +15,7 @@ use Rattle.field.specs.Field.{_⊕_}
 use Rattle.field.proofs.Xor.{⊕-shr, ⊕-odd, ⊕-bits, ⊕-zero-r, bit-cases, odd-lt}
 use Rattle.linear.specs.Sets.{insert}
 use Rattle.linear.proofs.Sets.{in-and-out, insert-same, insert-other}
-use Rattle.marks.specs.Marks.{marked, choose, withMark, withoutMark, remove, noneFrom}
+use Rattle.marks.specs.Marks.{marked, withMark, withoutMark, remove, noneFrom}
 
 -- ---- powers of two
 
@@ -60,7 +60,7 @@ pub marked-with : (m b s : ℕ) → marked (withMark m b) s ≡ insert b (marked
 unfolding withMark
 marked-with m b s = at (marked m b) refl (ℕ-discrete s b)
   where
-    at : (t : Bool) → marked m b ≡ t → Dec (s ≡ b) → marked (choose t m (m ⊕ 2 ^ b)) s ≡ insert b (marked m) s
+    at : (t : Bool) → marked m b ≡ t → Dec (s ≡ b) → marked (cond t m (m ⊕ 2 ^ b)) s ≡ insert b (marked m) s
     at true e (yes q) = rw q (e ∙ sym (insert-same b (marked m)))
     at false e (yes q) = rw q (turned m b ∙ ap not e ∙ sym (insert-same b (marked m)))
     at true e (no q) = sym (insert-other b (marked m) s q)
@@ -78,7 +78,7 @@ pub marked-without : (m b s : ℕ) → marked (withoutMark m b) s ≡ remove b (
 unfolding withoutMark
 marked-without m b s = at (marked m b) refl (ℕ-discrete s b)
   where
-    at : (t : Bool) → marked m b ≡ t → Dec (s ≡ b) → marked (choose t (m ⊕ 2 ^ b) m) s ≡ remove b (marked m) s
+    at : (t : Bool) → marked m b ≡ t → Dec (s ≡ b) → marked (cond t (m ⊕ 2 ^ b) m) s ≡ remove b (marked m) s
     at true e (yes q) = rw q (turned m b ∙ ap not e ∙ sym (remove-same b (marked m)))
     at false e (yes q) = rw q (e ∙ sym (remove-same b (marked m)))
     at true e (no q) = turned-other m b s q ∙ sym (remove-other b (marked m) s q)
