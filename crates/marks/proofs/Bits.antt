@@ -13,9 +13,9 @@ use lib.Dec.{eqb}
 use borrow.Author.Tests.{eq-eqb, ne-eqb, lt-ltb, ltb-true}
 use Rattle.field.specs.Field.{_⊕_}
 use Rattle.field.proofs.Xor.{⊕-shr, ⊕-odd, ⊕-bits, ⊕-zero-r, bit-cases, odd-lt}
-use Rattle.linear.specs.Sets.{insert}
-use Rattle.linear.proofs.Sets.{in-and-out, insert-same, insert-other}
-use Rattle.marks.specs.Marks.{marked, withMark, withoutMark, remove, noneFrom}
+use Rattle.linear.specs.Sets.{insert, remove}
+use Rattle.linear.proofs.Sets.{in-and-out, insert-same, insert-other, remove-same, remove-other}
+use Rattle.marks.specs.Marks.{marked, withMark, withoutMark, noneFrom}
 
 -- ---- powers of two
 
@@ -65,14 +65,6 @@ marked-with m b s = at (marked m b) refl (ℕ-discrete s b)
     at false e (yes q) = rw q (turned m b ∙ ap not e ∙ sym (insert-same b (marked m)))
     at true e (no q) = sym (insert-other b (marked m) s q)
     at false e (no q) = turned-other m b s q ∙ sym (insert-other b (marked m) s q)
-
-pub remove-same : (b : ℕ) (S : ℕ → Bool) → remove b S b ≡ false
-unfolding remove
-remove-same b S = rw (eq-eqb b b refl)
-
-pub remove-other : (b : ℕ) (S : ℕ → Bool) (s : ℕ) → (s ≡ b → ⊥) → remove b S s ≡ S s
-unfolding remove
-remove-other b S s h = rw (ne-eqb s b h)
 
 pub marked-without : (m b s : ℕ) → marked (withoutMark m b) s ≡ remove b (marked m) s
 unfolding withoutMark

@@ -7,11 +7,12 @@ use Prim.Native.Nat.{ℕ, _*_, _<_, _≤_}
 use native.Mathlib.Omega.{arith}
 use lib.ListN.{length}
 use Rattle.linear.specs.declared.Answer as Linear
-use Rattle.linear.proofs.Sets.{in-and-out}
+use Rattle.linear.specs.Sets.{remove}
+use Rattle.linear.proofs.Sets.{in-and-out, remove-same, remove-other}
 use Rattle.groups.specs.declared.Layout.{Layout}
 use Rattle.given.specs.Given.{Given}
-use Rattle.marks.specs.Marks.{marked, withoutMark, remove}
-use Rattle.marks.proofs.Bits.{marked-without, remove-same, remove-other}
+use Rattle.marks.specs.Marks.{marked, withoutMark}
+use Rattle.marks.proofs.Bits.{marked-without}
 use Rattle.rows.specs.Rows.{blocks}
 use Rattle.calls.specs.Calls.{stripe, repair, Verdict, Repaired}
 use Rattle.plan.specs.declared.Standing.{Standing}
