@@ -18,7 +18,8 @@ use Rattle.linear.specs.Combinations.{comb}
 use Rattle.linear.specs.Solved.{vec}
 use Rattle.linear.proofs.Sums.{sum-cong}
 use Rattle.linear.proofs.Vectors.{getD-part, put-length, put-before, put-within, put-after}
-use Rattle.pieces.specs.Pieces.{byteOf, Sources, Added, Combined, Gathered, Made}
+use Rattle.calls.specs.Calls.{byteOf}
+use Rattle.pieces.specs.Pieces.{Sources, Added, Combined, Gathered, Made}
 use Rattle.pieces.proofs.Blocks.{under, add-zero-times}
 
 -- ---- what a combination reads

@@ -16,10 +16,10 @@ use Rattle.linear.specs.Blocks.{dot}
 use Rattle.linear.specs.Solved.{vec, rowOf}
 use Rattle.linear.proofs.Sums.{sum-cong, sum-less}
 use Rattle.calls.specs.Code.{Code, Proper, enc, PlanOf}
-use Rattle.calls.specs.Calls.{stripe, Encoded, ByPlan, Repaired}
+use Rattle.calls.specs.Calls.{byteOf, stripe, Encoded, ByPlan, Repaired}
 use Rattle.calls.specs.Demands.{Alike}
 use Rattle.calls.proofs.Plans.{plan-none}
-use Rattle.pieces.specs.Pieces.{byteOf, Others, Gathered, Made, Encodable, EncodedList}
+use Rattle.pieces.specs.Pieces.{Others, Gathered, Made, Encodable, EncodedList}
 use Rattle.pieces.proofs.Blocks.{under}
 use Rattle.pieces.proofs.Combining.{comb-agree, sources}
 

@@ -10,7 +10,8 @@ use Rattle.linear.specs.Combinations.{comb}
 use Rattle.linear.specs.Solved.{vec, rowOf}
 use Rattle.linear.proofs.Combinations.{comb-cong}
 use Rattle.linear.proofs.Vectors.{row-part}
-use Rattle.pieces.specs.Pieces.{byteOf, Others, Made, Encodable, EncodedList}
+use Rattle.calls.specs.Calls.{byteOf}
+use Rattle.pieces.specs.Pieces.{Others, Made, Encodable, EncodedList}
 use Rattle.pieces.proofs.Blocks.{under}
 use Rattle.pieces.proofs.Combining.{comb-agree, sources}
 

@@ -7,10 +7,7 @@ use lib.ListN.{getD, length}
 use Rattle.field.specs.Field.{_⊕_, mul}
 use Rattle.linear.specs.Combinations.{comb}
 use Rattle.linear.specs.Solved.{vec, rowOf}
-
--- byte x of block b: "A stripe holds n blocks of L bytes one after another"
-abbrev pub byteOf : ℕ → List ℕ → ℕ → ℕ → ℕ
-byteOf len xs b x = getD xs (b * len + x) 0
+use Rattle.calls.specs.Calls.{byteOf}
 
 -- ---- combinations of blocks
 
