@@ -3,7 +3,7 @@
 use mathlib.Core.Path.{_≡_, refl}
 use mathlib.Core.List.{List, [], _++_}
 use mathlib.Core.Logic.{_↔_}
-use mathlib.Core.Bool.{Bool, true, false}
+use mathlib.Core.Bool.{Bool, true, false, Bool-discrete}
 use Prim.Native.Nat.{ℕ, _+_, _<_, _≤_}
 use native.Mathlib.Omega.{arith}
 use native.Mathlib.Decide.{decLt, decLe, ℕ-discrete}
@@ -112,12 +112,6 @@ module _ (c : Code) (lost : ℕ → Bool) where
 
 -- ---- one answer for every call
 
-bool-dec : (x y : Bool) → Dec (x ≡ y)
-bool-dec true true = yes refl
-bool-dec false false = yes refl
-bool-dec true false = no (λ e. in-and-out refl e)
-bool-dec false true = no (λ e. in-and-out e refl)
-
 module _ (c : Code) (p : Proper c) (lost : ℕ → Bool) where
   plan-dec : (b : ℕ) → b < c .n → Dec (lost b ≡ true → HasPlan c lost b)
   plan-dec b l = at (lost b) refl (has-plan-dec c p lost b l)
@@ -129,13 +123,13 @@ module _ (c : Code) (p : Proper c) (lost : ℕ → Bool) where
 
   needs-dec : (q : Call) → Decidable (needs c lost q)
   needs-dec encode = decided
-  needs-dec (lose b) = and-this (decLt b (c .n)) (λ _. and-this (bool-dec (lost b) false) (λ _. decided))
+  needs-dec (lose b) = and-this (decLt b (c .n)) (λ _. and-this (Bool-discrete (lost b) false) (λ _. decided))
   needs-dec (repair b) =
-      and-this (decLt b (c .n)) (λ l. and-this (bool-dec (lost b) true) (λ _. and-this (has-plan-dec c p lost b l) (λ _. decided)))
+      and-this (decLt b (c .n)) (λ l. and-this (Bool-discrete (lost b) true) (λ _. and-this (has-plan-dec c p lost b l) (λ _. decided)))
   needs-dec rebuild =
       decidable-each (λ b. naming 14 b unless (lost b ≡ true → HasPlan c lost b)) (c .n) 0 (λ b l. plan-dec b (omega arith))
   needs-dec (correct i off d) =
-      and-this (decLt i (c .k)) (λ _. and-this (bool-dec (lost i) false) (λ _. and-this (decLe (off + length d) (c .L)) (λ _. decided)))
+      and-this (decLt i (c .k)) (λ _. and-this (Bool-discrete (lost i) false) (λ _. and-this (decLe (off + length d) (c .L)) (λ _. decided)))
   needs-dec (fetch b m) =
       and-this (decLt b (c .n)) (λ l. and-this (ℕ-discrete m (c .L)) (λ _. and-this (plan-dec b l) (λ _. decided)))
 

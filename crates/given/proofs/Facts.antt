@@ -112,7 +112,11 @@ mutual
 
 -- ---- the layout of a tree
 
-sum-grows : (f : Group → ℕ) (gs : List Group) (x n : ℕ) → x ≤ n → sumOf f gs x ≤ sumOf f gs n
+pub sum-none : (f : Group → ℕ) (gs : List Group) → sumOf f gs 0 ≡ 0
+unfolding sumOf
+sum-none f gs = refl
+
+pub sum-grows : (f : Group → ℕ) (gs : List Group) (x n : ℕ) → x ≤ n → sumOf f gs x ≤ sumOf f gs n
 unfolding sumOf
 sum-grows f gs zero n h = omega arith
 sum-grows f gs (suc x) zero h = absurd (omega arith)
@@ -120,7 +124,7 @@ sum-grows f [] (suc x) (suc n) h = omega arith
 sum-grows f (g ∷ gs) (suc x) (suc n) h = let e = sum-grows f gs x n (omega arith) in omega arith
 
 -- one group more: its own share is in the sum
-sum-step : (f : Group → ℕ) (gs : List Group) (x : ℕ) → x < length gs → sumOf f gs x + f (getD gs x noGroup) ≡ sumOf f gs (suc x)
+pub sum-step : (f : Group → ℕ) (gs : List Group) (x : ℕ) → x < length gs → sumOf f gs x + f (getD gs x noGroup) ≡ sumOf f gs (suc x)
 unfolding sumOf
 sum-step f [] x h = absurd (omega arith)
 sum-step f (g ∷ gs) zero h = omega arith

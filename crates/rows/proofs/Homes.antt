@@ -14,28 +14,11 @@ use Rattle.given.specs.Given.{Given}
 use Rattle.given.specs.Facts.{sumOf, datasBefore, redundantsBefore, rowsRound, Proper}
 use Rattle.groups.specs.declared.Group.{Group}
 use Rattle.groups.specs.declared.Layout.{Layout}
-use Rattle.given.proofs.Facts.{given-proper}
+use Rattle.given.proofs.Facts.{sum-none, sum-grows, sum-step, given-proper}
 use Rattle.rows.specs.Rows.{blocks, among, owns, homeBelow, home, rowNumber}
 use Rattle.rows.proofs.Ranges.{among-yes, among-in}
 
--- ---- sums over the groups before a group
-
-sum-step : (f : Group → ℕ) (gs : List Group) (x : ℕ) → x < length gs → sumOf f gs x + f (getD gs x noGroup) ≡ sumOf f gs (suc x)
-unfolding sumOf
-sum-step f [] x h = absurd (omega arith)
-sum-step f (g ∷ gs) zero h = omega arith
-sum-step f (g ∷ gs) (suc x) h = let e = sum-step f gs x (omega arith) in omega arith
-
-sum-grows : (f : Group → ℕ) (gs : List Group) (x n : ℕ) → x ≤ n → sumOf f gs x ≤ sumOf f gs n
-unfolding sumOf
-sum-grows f gs zero n h = omega arith
-sum-grows f gs (suc x) zero h = absurd (omega arith)
-sum-grows f [] (suc x) (suc n) h = omega arith
-sum-grows f (g ∷ gs) (suc x) (suc n) h = let e = sum-grows f gs x n (omega arith) in omega arith
-
-sum-none : (f : Group → ℕ) (gs : List Group) → sumOf f gs 0 ≡ 0
-unfolding sumOf
-sum-none f gs = refl
+-- ---- the group that a number falls to
 
 -- the number b, among sums that begin at or below it and end above it: the step that passes it
 record Passed (f : ℕ → ℕ) (m b : ℕ) : Type 0 where

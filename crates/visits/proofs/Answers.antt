@@ -5,7 +5,7 @@ use mathlib.Core.Bool.{Bool, false, not}
 use Prim.Native.Nat.{ℕ, _-_, _<_, _≤_}
 use native.Mathlib.Omega.{arith}
 use native.Mathlib.Decide.{decLt}
-use lib.ListN.{length, getD, replicate, length-append, length-replicate, List·getD-eq-default}
+use lib.ListN.{length, getD, replicate, length-append, length-replicate, List·getD-append, List·getD-eq-default}
 use Rattle.linear.specs.Solved.{vec, Survivors}
 use Rattle.linear.specs.Greedy.{visited}
 use Rattle.linear.proofs.Vectors.{zeros-at}
@@ -17,7 +17,7 @@ use Rattle.rows.proofs.Groups.{few-blocks}
 use Rattle.visits.specs.Visits.{visits}
 use Rattle.visits.specs.Answers.{Listed}
 use Rattle.visits.specs.declared.Visits.{Visits}
-use Rattle.visits.proofs.Lists.{getD-front, getD-behind}
+use Rattle.visits.proofs.Lists.{getD-behind}
 use Rattle.visits.proofs.Orders.{visits-below, visits-few, visits-visited, visits-past}
 
 -- ---- at most one answer
@@ -36,7 +36,7 @@ pub listed-at : (xs : List ℕ) (v : Visits) → Listed xs v → (p : ℕ) → g
 listed-at xs v a p = ap (λ (bs : List ℕ). getD bs p 0) (a .blocks) ∙ at (decLt p (length xs))
   where
     at : Dec (p < length xs) → getD (xs ++ replicate (48 - length xs) 0) p 0 ≡ getD xs p 0
-    at (yes h) = getD-front xs _ p h
+    at (yes h) = List·getD-append xs _ 0 p h
     at (no h) =
         let k : length xs ≤ p = omega arith in
         getD-behind xs _ p k ∙ zeros-at (48 - length xs) (p - length xs) ∙ sym (List·getD-eq-default xs 0 k)
