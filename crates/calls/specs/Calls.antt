@@ -16,9 +16,13 @@ pub record Stripe : Type 0 where
   pub lost : ℕ → Bool
   pub byte : ℕ → ℕ → ℕ
 
--- "A stripe holds n blocks of L bytes one after another"
+-- byte x of block b: "A stripe holds n blocks of L bytes one after another"
+abbrev pub byteOf : ℕ → List ℕ → ℕ → ℕ → ℕ
+byteOf L xs b x = getD xs (b * L + x) 0
+
+-- the stripe that the bytes xs are
 abbrev pub stripe : ℕ → (ℕ → Bool) → List ℕ → Stripe
-stripe L lost xs = record { lost = lost; byte = λ b x. getD xs (b * L + x) 0 }
+stripe L lost xs = record { lost = lost; byte = byteOf L xs }
 
 pub data Call : Type 0 where
   encode : Call

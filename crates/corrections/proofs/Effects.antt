@@ -6,8 +6,7 @@ use native.Mathlib.Omega.{arith}
 use Rattle.field.specs.Field.{_⊕_, mul}
 use Rattle.marks.specs.Marks.{marked}
 use Rattle.calls.specs.Code.{Code}
-use Rattle.calls.specs.Calls.{stripe, laid, Corrected}
-use Rattle.pieces.specs.Pieces.{byteOf}
+use Rattle.calls.specs.Calls.{byteOf, stripe, laid, Corrected}
 use Rattle.pieces.proofs.Effects.{Renders}
 use Rattle.corrections.specs.Corrections.{CorrectedList}
 

@@ -17,9 +17,8 @@ use Rattle.linear.specs.Solved.{vec, rowOf}
 use Rattle.linear.proofs.Sets.{in-and-out}
 use Rattle.linear.proofs.Vectors.{getD-part, put-length, put-before, put-within, put-after}
 use Rattle.marks.specs.Marks.{marked}
-use Rattle.calls.specs.Calls.{laid}
+use Rattle.calls.specs.Calls.{byteOf, laid}
 use Rattle.calls.proofs.Encodings.{laid-small}
-use Rattle.pieces.specs.Pieces.{byteOf}
 use Rattle.pieces.proofs.Blocks.{under, add-zero-times}
 use Rattle.corrections.specs.Corrections.{Laid, Correctable, Touched, Spread, CorrectedList}
 

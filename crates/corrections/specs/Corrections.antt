@@ -8,8 +8,7 @@ use lib.ListN.{getD, length}
 use Rattle.field.specs.Field.{_⊕_, mul}
 use Rattle.linear.specs.Solved.{rowOf}
 use Rattle.marks.specs.Marks.{marked}
-use Rattle.calls.specs.Calls.{laid}
-use Rattle.pieces.specs.Pieces.{byteOf}
+use Rattle.calls.specs.Calls.{byteOf, laid}
 
 -- what `lay` leaves: c times the difference d is added from position at on
 pub record Laid (d : List ℕ) (c at : ℕ) (xs ys : List ℕ) : Type 0 where

@@ -9,10 +9,11 @@ use native.Mathlib.Omega.{arith}
 use native.Mathlib.Nat.{mul-add-div-right, mul-add-mod-self-right, div-eq-of-lt, mod-eq-of-lt}
 use native.Mathlib.Decide.{decLt, decLe}
 use lib.ListN.{length, getD}
+use Rattle.linear.proofs.Sets.{remove-same, remove-other}
 use Rattle.groups.specs.declared.Layout.{Layout}
 use Rattle.given.specs.Given.{Given}
 use Rattle.marks.specs.Marks.{marked, withoutMark}
-use Rattle.marks.proofs.Bits.{marked-zero, marked-without, remove-same, remove-other}
+use Rattle.marks.proofs.Bits.{marked-zero, marked-without}
 use Rattle.rows.specs.Rows.{blocks}
 use Rattle.calls.specs.Code.{Code, Proper, HasPlan}
 use Rattle.calls.specs.Calls as Calls

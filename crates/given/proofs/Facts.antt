@@ -112,7 +112,11 @@ mutual
 
 -- ---- the layout of a tree
 
-sum-grows : (f : Group → ℕ) (gs : List Group) (x n : ℕ) → x ≤ n → sumOf f gs x ≤ sumOf f gs n
+pub sum-none : (f : Group → ℕ) (gs : List Group) → sumOf f gs 0 ≡ 0
+unfolding sumOf
+sum-none f gs = refl
+
+pub sum-grows : (f : Group → ℕ) (gs : List Group) (x n : ℕ) → x ≤ n → sumOf f gs x ≤ sumOf f gs n
 unfolding sumOf
 sum-grows f gs zero n h = omega arith
 sum-grows f gs (suc x) zero h = absurd (omega arith)
@@ -120,7 +124,7 @@ sum-grows f [] (suc x) (suc n) h = omega arith
 sum-grows f (g ∷ gs) (suc x) (suc n) h = let e = sum-grows f gs x n (omega arith) in omega arith
 
 -- one group more: its own share is in the sum
-sum-step : (f : Group → ℕ) (gs : List Group) (x : ℕ) → x < length gs → sumOf f gs x + f (getD gs x noGroup) ≡ sumOf f gs (suc x)
+pub sum-step : (f : Group → ℕ) (gs : List Group) (x : ℕ) → x < length gs → sumOf f gs x + f (getD gs x noGroup) ≡ sumOf f gs (suc x)
 unfolding sumOf
 sum-step f [] x h = absurd (omega arith)
 sum-step f (g ∷ gs) zero h = omega arith
@@ -208,6 +212,7 @@ given-proper l g = let r = given-tree l g in subst Proper (sym (r .2)) (proper (
 
 -- ---- groups that hold groups
 
+-- holding is an order on the groups of a layout; `holds-itself` and `holds-trans` are for the reader of `Holds`, nothing cites them
 module _ (l : Layout) (p : Proper l) where
   pub holds-itself : (x : ℕ) → x < l .groups → Holds l x x
   holds-itself x h = let q = p .each x h .itself in record { from = omega arith; to = omega arith }

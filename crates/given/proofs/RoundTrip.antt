@@ -83,6 +83,7 @@ mutual
 pub given-tree : (l : Layout) → Given l → (t : Tree) × Within t × (l ≡ layoutOf t)
 given-tree l g = let r = read-tree (g .note) l (g .bytes) (g .gives) in (r .0, r .1, r .3)
 
+-- the other way, for the reader of `Given`; nothing cites it
 pub tree-given : (t : Tree) → Within t → Given (layoutOf t)
 tree-given t b =
     record { note = noteOf t; bytes = tree-bytes t (omega (arith, b .path)) (omega (arith, b .k)); gives = tree-read t b }

@@ -2,10 +2,10 @@
 -- holds on both sides.
 use Prim.Native.Nat.{ℕ, _≤_, _<_}
 use mathlib.Core.Path.{_≡_, refl}
-use mathlib.Core.Bool.{Bool, true, false}
+use mathlib.Core.Bool.{Bool, true, false, cond}
 use lib.Dec.{ltb, eqb}
 use borrow.Author.Tests.{le-ltb, lt-ltb, eq-eqb, ne-eqb, ltb-true, ltb-false, eqb-true, eqb-false}
-use Rattle.groups.specs.Groups.{pick, ifLt, ifEq}
+use Rattle.groups.specs.Groups.{ifLt, ifEq}
 
 pub lt-yes : {A : Type 0} {a b : ℕ} {x z : A} (y : A) → a < b → z ≡ x → z ≡ ifLt a b x y
 unfolding ifLt
@@ -27,7 +27,7 @@ pub by-lt : {A : Type 0} (P : A → Type 0) (a b : ℕ) {x y : A} → (a < b →
 unfolding ifLt
 by-lt P a b {x} {y} f g = go (ltb a b) refl
   where
-    go : (t : Bool) → ltb a b ≡ t → P (pick t x y)
+    go : (t : Bool) → ltb a b ≡ t → P (cond t x y)
     go true e = f (ltb-true a b e)
     go false e = g (ltb-false a b e)
 
@@ -35,6 +35,6 @@ pub by-eq : {A : Type 0} (P : A → Type 0) (a b : ℕ) {x y : A} → (a ≡ b �
 unfolding ifEq
 by-eq P a b {x} {y} f g = go (eqb a b) refl
   where
-    go : (t : Bool) → eqb a b ≡ t → P (pick t x y)
+    go : (t : Bool) → eqb a b ≡ t → P (cond t x y)
     go true e = f (eqb-true a b e)
     go false e = g (eqb-false a b e)

@@ -1,7 +1,7 @@
 -- Believed: document 01, "The layout note": how blocks and rows are numbered, and the bounds on the running totals, with refusal 5 of "When the
 -- store says no". A layout is the groups entered so far; the reader holds one, with its place in the note and the fault that it found.
 use Prim.Native.Nat.{ℕ, _+_, _-_}
-use mathlib.Core.Bool.{Bool, true, false}
+use mathlib.Core.Bool.{cond}
 use lib.ListN.{getD, set, replicate}
 use lib.Dec.{ltb, eqb}
 use Rattle.groups.specs.declared.Group.{Group}
@@ -10,18 +10,13 @@ use Rattle.groups.specs.declared.Walk.{Walk}
 
 -- ---- tests
 
--- the first if the test holds, else the second
-abbrev pub pick : {A : Type 0} → Bool → A → A → A
-pick true x y = x
-pick false x y = y
-
 -- x if a < b, else y
 unfoldable pub ifLt : {A : Type 0} → ℕ → ℕ → A → A → A
-ifLt a b x y = pick (ltb a b) x y
+ifLt a b x y = cond (ltb a b) x y
 
 -- x if a is b, else y
 unfoldable pub ifEq : {A : Type 0} → ℕ → ℕ → A → A → A
-ifEq a b x y = pick (eqb a b) x y
+ifEq a b x y = cond (eqb a b) x y
 
 -- ---- layouts
 

@@ -4,16 +4,20 @@ use mathlib.Core.Path.{_≡_, refl, sym, ap, ap₂, _∙_}
 use mathlib.Core.Bool.{Bool, true, false}
 use mathlib.Core.Logic.{_↔_}
 use Prim.Native.Nat.{ℕ, _<_}
-use native.Mathlib.Omega.{arith}
 use native.Mathlib.Decide.{decLt, ℕ-discrete}
 use Rattle.field.specs.Field.{_⊕_, mul}
 use Rattle.field.proofs.Xor.{⊕-zero-r}
 use Rattle.field.proofs.Product.{mul-zero-l, mul-zero-r, mul-add-l, mul-one-l, mul-lt}
 use Rattle.field.proofs.Laws.{mul-assoc}
-use Rattle.linear.specs.Sums.{sumTo, put, unit}
+use Rattle.linear.specs.Sums.{put}
 use Rattle.linear.specs.Combinations.{comb, Combo}
 use Rattle.linear.proofs.Sets.{in-and-out}
 use Rattle.linear.proofs.Sums.{sum-cong, sum-zero, sum-⊕, sum-lt, sum-swap, sum-single, sum-scale, sum-scale-r, put-parts, put-same, put-other, put-self}
+
+-- outside a set the coefficient is zero, inside it the factors are the same
+pub mul-within : (c x y : ℕ) (b : Bool) → (b ≡ false → c ≡ 0) → (b ≡ true → x ≡ y) → mul c x ≡ mul c y
+mul-within c x y true f t = ap (mul c) (t refl)
+mul-within c x y false f t = ap (λ (z : ℕ). mul z x) (f refl) ∙ mul-zero-l x ∙ sym (mul-zero-l y) ∙ ap (λ (z : ℕ). mul z y) (sym (f refl))
 
 module _ (n : ℕ) where
   pub comb-cong : {c d : ℕ → ℕ} (R : ℕ → ℕ → ℕ) (i : ℕ) → ((s : ℕ) → s < n → c s ≡ d s) → comb n c R i ≡ comb n d R i
@@ -71,20 +75,6 @@ module _ (n : ℕ) where
 -- ---- combinations of the rows that a set names
 
 module _ (n w : ℕ) (R : ℕ → ℕ → ℕ) where
-  pub combo-zero : (S : ℕ → Bool) → Combo n w R S (λ _. 0)
-  combo-zero S =
-      record { coef = λ _. 0; out = λ s l o. refl; sum = λ i l. sym (comb-zero n (λ _. 0) R i (λ s k. refl)) }
-
-  -- v ⊕ a u
-  pub combo-add : {S : ℕ → Bool} {v u : ℕ → ℕ} (a : ℕ) → Combo n w R S v → Combo n w R S u → Combo n w R S (λ i. v i ⊕ mul a (u i))
-  combo-add a x y =
-      record {
-        coef = λ s. x .coef s ⊕ mul a (y .coef s);
-        out = λ s l o. ap₂ _⊕_ (x .out s l o) (ap (mul a) (y .out s l o) ∙ mul-zero-r a) ∙ ⊕-zero-r 0;
-        sum = λ i l. ap₂ _⊕_ (x .sum i l) (ap (mul a) (y .sum i l) ∙ sym (comb-scale n a (y .coef) R i))
-            ∙ sym (comb-⊕ n (x .coef) (λ s. mul a (y .coef s)) R i);
-      }
-
   -- a row that the set names
   pub combo-row : {S : ℕ → Bool} (b : ℕ) → b < n → S b ≡ true → ((i : ℕ) → R b i < 256) → Combo n w R S (R b)
   combo-row {S} b l t f =
@@ -106,18 +96,14 @@ module _ (n w : ℕ) (R : ℕ → ℕ → ℕ) where
   module _ (m : ℕ) (Q : ℕ → ℕ → ℕ) (T : ℕ → Bool) (S : ℕ → Bool) (D : ℕ → ℕ → ℕ)
       (off : (t : ℕ) → t < m → T t ≡ true → (s : ℕ) → s < n → S s ≡ false → D t s ≡ 0)
       (row : (t : ℕ) → t < m → T t ≡ true → (i : ℕ) → i < w → Q t i ≡ comb n (D t) R i) where
-    by-cases : (c x y : ℕ) (b : Bool) → (b ≡ false → c ≡ 0) → (b ≡ true → x ≡ y) → mul c x ≡ mul c y
-    by-cases c x y true f t = ap (mul c) (t refl)
-    by-cases c x y false f t = ap (λ (z : ℕ). mul z x) (f refl) ∙ mul-zero-l x ∙ sym (mul-zero-l y) ∙ ap (λ (z : ℕ). mul z y) (sym (f refl))
-
     pub combo-through : {v : ℕ → ℕ} → Combo m w Q T v → Combo n w R S v
     unfolding comb
     combo-through x =
         record {
           coef = comb m (x .coef) D;
-          out = λ s l o. sum-zero m _ (λ t k. by-cases (x .coef t) (D t s) 0 (T t) (x .out t k) (λ e. off t k e s l o) ∙ mul-zero-r (x .coef t));
+          out = λ s l o. sum-zero m _ (λ t k. mul-within (x .coef t) (D t s) 0 (T t) (x .out t k) (λ e. off t k e s l o) ∙ mul-zero-r (x .coef t));
           sum = λ i l. x .sum i l
-              ∙ sum-cong m (λ t k. by-cases (x .coef t) (Q t i) (comb n (D t) R i) (T t) (x .out t k) (λ e. row t k e i l))
+              ∙ sum-cong m (λ t k. mul-within (x .coef t) (Q t i) (comb n (D t) R i) (T t) (x .out t k) (λ e. row t k e i l))
               ∙ comb-comb n m (x .coef) D R i;
         }
 

@@ -8,15 +8,15 @@ use native.Mathlib.Omega.{arith}
 use native.Mathlib.Decide.{decLt, ℕ-discrete}
 use Rattle.field.specs.Field.{_⊕_, mul}
 use Rattle.field.proofs.Xor.{⊕-self}
-use Rattle.field.proofs.Product.{mul-zero-l, mul-zero-r, mul-one-l, mul-lt}
+use Rattle.field.proofs.Product.{mul-zero-r, mul-one-l, mul-lt}
 use Rattle.linear.specs.Sets.{insert, count}
-use Rattle.linear.specs.Sums.{sumTo, put}
+use Rattle.linear.specs.Sums.{put}
 use Rattle.linear.specs.Combinations.{comb, Combo, Independent}
 use Rattle.linear.specs.Greedy.{visited, Kept}
 use Rattle.linear.specs.Rank.{Basis, Rank}
 use Rattle.linear.proofs.Sets.{in-and-out, insert-same, insert-other, insert-less, count-le, count-insert-le, count-lt, nth, nth-lt, nth-in, nth-count}
 use Rattle.linear.proofs.Sums.{sum-cong, sum-zero, put-same, put-other, put-self}
-use Rattle.linear.proofs.Combinations.{comb-cong, comb-zero, comb-put, comb-comb, comb-scale, comb-lt, combo-more, combo-row, combo-trans}
+use Rattle.linear.proofs.Combinations.{comb-cong, comb-zero, comb-put, comb-comb, comb-scale, comb-lt, mul-within, combo-more, combo-row, combo-trans}
 use Rattle.linear.proofs.Choice.{kept-in, kept-independent, kept-spans, visited-at, visited-place}
 use Rattle.linear.proofs.Existence.{kept-exists, kept-few}
 
@@ -110,21 +110,13 @@ module _ (n w : ℕ) (R : ℕ → ℕ → ℕ) {S : ℕ → Bool} (F : Independe
     E : ℕ → ℕ → ℕ
     E s k = D s (nth T q k)
 
-    zero-by : (c x : ℕ) (b : Bool) → (b ≡ false → c ≡ 0) → (b ≡ true → x ≡ 0) → mul c x ≡ 0
-    zero-by c x true f t = ap (mul c) (t refl) ∙ mul-zero-r c
-    zero-by c x false f t = ap (λ (z : ℕ). mul z x) (f refl) ∙ mul-zero-l x
-
-    same-by : (c x y : ℕ) (b : Bool) → (b ≡ false → c ≡ 0) → (b ≡ true → x ≡ y) → mul c x ≡ mul c y
-    same-by c x y true f t = ap (mul c) (t refl)
-    same-by c x y false f t = ap (λ (z : ℕ). mul z x) (f refl) ∙ mul-zero-l x ∙ sym (mul-zero-l y) ∙ ap (λ (z : ℕ). mul z y) (sym (f refl))
-
     independent-E : Independent n (count T q) E S
     unfolding E comb
     independent-E = record { at = λ e eb eo z. F .at e eb eo (λ i l. all e eo z i l) }
       where
         col : (e : ℕ → ℕ) → ((s : ℕ) → s < n → S s ≡ false → e s ≡ 0) → ((k : ℕ) → k < count T q → comb n e E k ≡ 0)
             → (t : ℕ) → t < q → (b : Bool) → T t ≡ b → comb n e D t ≡ 0
-        col e eo z t l false o = sum-zero n _ (λ s k. zero-by (e s) (D s t) (S s) (eo s k) (λ h. off s k h t l o))
+        col e eo z t l false o = sum-zero n _ (λ s k. mul-within (e s) (D s t) 0 (S s) (eo s k) (λ h. off s k h t l o) ∙ mul-zero-r (e s))
         col e eo z t l true o =
             sum-cong n (λ s k. ap (λ (x : ℕ). mul (e s) (D s x)) (sym (nth-count T q t l o)))
             ∙ z (count T t) (count-lt T t q l o)
@@ -132,7 +124,7 @@ module _ (n w : ℕ) (R : ℕ → ℕ → ℕ) {S : ℕ → Bool} (F : Independe
         all : (e : ℕ → ℕ) → ((s : ℕ) → s < n → S s ≡ false → e s ≡ 0) → ((k : ℕ) → k < count T q → comb n e E k ≡ 0)
             → (i : ℕ) → i < w → comb n e R i ≡ 0
         all e eo z i l =
-            sum-cong n (λ s k. same-by (e s) (R s i) (comb q (D s) Q i) (S s) (eo s k) (λ h. row s k h i l))
+            sum-cong n (λ s k. mul-within (e s) (R s i) (comb q (D s) Q i) (S s) (eo s k) (λ h. row s k h i l))
             ∙ comb-comb q n e D Q i
             ∙ comb-zero q (comb n e D) Q i (λ t k. col e eo z t k (T t) refl)
 

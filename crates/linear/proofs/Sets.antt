@@ -1,12 +1,12 @@
 -- Proved: the laws of sets of blocks and of how many blocks they have.
-use mathlib.Core.Path.{_≡_, refl, sym, ap, ap₂, _∙_}
+use mathlib.Core.Path.{_≡_, refl, sym, ap₂, _∙_}
 use mathlib.Core.Bool.{Bool, true, false, _||_}
 use Prim.Native.Nat.{ℕ, zero, suc, _+_, _<_, _≤_}
 use native.Mathlib.Omega.{arith}
 use native.Mathlib.Decide.{decLt, ℕ-discrete}
 use lib.Dec.{eqb}
 use borrow.Author.Tests.{eq-eqb, ne-eqb}
-use Rattle.linear.specs.Sets.{insert, bit, count}
+use Rattle.linear.specs.Sets.{insert, remove, bit, count}
 
 -- a block is not both in a set and not in it
 pub in-and-out : {A : Type 0} {x : Bool} → x ≡ true → x ≡ false → A
@@ -36,6 +36,14 @@ insert-less b S s = at (eqb s b)
     at : (t : Bool) → (t || S s) ≡ false → S s ≡ false
     at true o = in-and-out refl o
     at false o = o
+
+pub remove-same : (b : ℕ) (S : ℕ → Bool) → remove b S b ≡ false
+unfolding remove
+remove-same b S = rw (eq-eqb b b refl)
+
+pub remove-other : (b : ℕ) (S : ℕ → Bool) (s : ℕ) → (s ≡ b → ⊥) → remove b S s ≡ S s
+unfolding remove
+remove-other b S s h = rw (ne-eqb s b h)
 
 -- ---- how many
 

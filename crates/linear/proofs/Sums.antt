@@ -1,7 +1,7 @@
 -- Proved: the laws of finite sums in the field, and of a function changed at one place.
 use mathlib.Core.Path.{_≡_, refl, sym, ap, ap₂, _∙_}
-use mathlib.Core.Bool.{Bool, true, false}
-use Prim.Native.Nat.{ℕ, zero, suc, _+_, _<_, _≤_}
+use mathlib.Core.Bool.{Bool, true, false, cond}
+use Prim.Native.Nat.{ℕ, zero, suc, _<_, _≤_}
 use native.Mathlib.Omega.{arith}
 use native.Mathlib.Decide.{decLt, ℕ-discrete}
 use lib.Dec.{eqb}
@@ -10,7 +10,7 @@ use Rattle.field.specs.Field.{_⊕_, mul}
 use Rattle.field.proofs.Xor.{⊕-zero-l, ⊕-zero-r, ⊕-lt, ⊕-swap}
 use Rattle.field.proofs.Product.{mul-zero-r, mul-add-r}
 use Rattle.field.proofs.Laws.{mul-comm}
-use Rattle.linear.specs.Sums.{sumTo, pick, put, unit}
+use Rattle.linear.specs.Sums.{sumTo, put, unit}
 
 pub sum-cong : (m : ℕ) {f g : ℕ → ℕ} → ((j : ℕ) → j < m → f j ≡ g j) → sumTo m f ≡ sumTo m g
 unfolding sumTo
@@ -84,7 +84,7 @@ pub put-self : (b : ℕ) (f : ℕ → ℕ) (s : ℕ) → f s ≡ put b (f b) f s
 unfolding put
 put-self b f s = at (eqb s b) refl
   where
-    at : (t : Bool) → eqb s b ≡ t → f s ≡ pick t (f b) (f s)
+    at : (t : Bool) → eqb s b ≡ t → f s ≡ cond t (f b) (f s)
     at true e = ap f (eqb-true s b e)
     at false e = refl
 
@@ -92,19 +92,9 @@ pub put-parts : (b x : ℕ) (f : ℕ → ℕ) (s : ℕ) → put b x f s ≡ put 
 unfolding put
 put-parts b x f s = at (eqb s b)
   where
-    at : (t : Bool) → pick t x (f s) ≡ pick t 0 (f s) ⊕ pick t x 0
+    at : (t : Bool) → cond t x (f s) ≡ cond t 0 (f s) ⊕ cond t x 0
     at true = sym (⊕-zero-l x)
     at false = sym (⊕-zero-r (f s))
-
-pub sum-put : (m b x : ℕ) (f : ℕ → ℕ) → b < m → sumTo m (put b x f) ≡ sumTo m (put b 0 f) ⊕ x
-sum-put m b x f l =
-    sum-cong m (λ s k. put-parts b x f s)
-    ∙ sum-⊕ m (put b 0 f) (put b x (λ _. 0))
-    ∙ ap (λ (y : ℕ). sumTo m (put b 0 f) ⊕ y)
-    (sum-single m b (put b x (λ _. 0)) l (λ j k n. put-other b x (λ _. 0) j n) ∙ put-same b x (λ _. 0))
-
-pub sum-split : (m b : ℕ) (f : ℕ → ℕ) → b < m → sumTo m f ≡ sumTo m (put b 0 f) ⊕ f b
-sum-split m b f l = sum-cong m (λ s k. put-self b f s) ∙ sum-put m b (f b) f l
 
 -- ---- one at a place
 

@@ -1,5 +1,6 @@
--- Believed: sets of blocks. A set is a function from block numbers, "survivors" and "lost" among them: a set S has the block s if S s is true.
-use mathlib.Core.Bool.{Bool, true, false, _||_}
+-- Believed: document 01, "The plan": sets of blocks, as those lost and the survivors. A set is a function from block numbers: a set S has the block s if S s
+-- is true.
+use mathlib.Core.Bool.{Bool, true, false, not, _&&_, _||_}
 use Prim.Native.Nat.{ℕ, zero, suc, _+_}
 use lib.Dec.{eqb, ltb}
 
@@ -9,6 +10,10 @@ none s = false
 -- S and the block b
 unfoldable pub insert : ℕ → (ℕ → Bool) → ℕ → Bool
 insert b S s = eqb s b || S s
+
+-- S without the block b
+unfoldable pub remove : ℕ → (ℕ → Bool) → ℕ → Bool
+remove b S s = not (eqb s b) && S s
 
 abbrev pub bit : Bool → ℕ
 bit true = 1

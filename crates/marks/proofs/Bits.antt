@@ -1,7 +1,7 @@
--- Proved: marks are sets. Marking inserts one block and unmarking removes one, marks stay within 64 bits, two numbers with the same marks are one
--- number, and `noneFrom` tells what its name says.
+-- Proved: marks are sets. Marking inserts one block and unmarking removes one, two numbers with the same marks are one number, and `noneFrom` tells what
+-- its name says.
 use mathlib.Core.Path.{_≡_, refl, sym, ap, _∙_}
-use mathlib.Core.Bool.{Bool, true, false, not}
+use mathlib.Core.Bool.{Bool, true, false, not, cond}
 use mathlib.Core.Logic.{_↔_}
 use Prim.Native.Nat.{ℕ, suc, _+_, _-_, _*_, _/_, _%_, _^_, _<_, _≤_}
 use native.Mathlib.Nat.{pow-le-pow-right, div-eq-of-lt, div-self, div-one, zero-div, div-div-eq-div-mul, mul-div-cancel, mod-eq-of-lt, lt-div-mul-add, one-mul, zero-mul, zero-add}
@@ -10,12 +10,12 @@ use native.Mathlib.Decide.{decLt, ℕ-discrete}
 use lib.Arith.{bin-ind}
 use lib.Pow.{pow-pos, pow-add}
 use lib.Dec.{eqb}
-use borrow.Author.Tests.{eq-eqb, ne-eqb, lt-ltb, ltb-true}
+use borrow.Author.Tests.{lt-ltb, ltb-true}
 use Rattle.field.specs.Field.{_⊕_}
-use Rattle.field.proofs.Xor.{⊕-shr, ⊕-odd, ⊕-bits, ⊕-zero-r, bit-cases, odd-lt}
-use Rattle.linear.specs.Sets.{insert}
-use Rattle.linear.proofs.Sets.{in-and-out, insert-same, insert-other}
-use Rattle.marks.specs.Marks.{marked, choose, withMark, withoutMark, remove, noneFrom}
+use Rattle.field.proofs.Xor.{⊕-shr, ⊕-odd, ⊕-zero-r, bit-cases, odd-lt}
+use Rattle.linear.specs.Sets.{insert, remove}
+use Rattle.linear.proofs.Sets.{in-and-out, insert-same, insert-other, remove-same, remove-other}
+use Rattle.marks.specs.Marks.{marked, withMark, withoutMark, noneFrom}
 
 -- ---- powers of two
 
@@ -60,25 +60,17 @@ pub marked-with : (m b s : ℕ) → marked (withMark m b) s ≡ insert b (marked
 unfolding withMark
 marked-with m b s = at (marked m b) refl (ℕ-discrete s b)
   where
-    at : (t : Bool) → marked m b ≡ t → Dec (s ≡ b) → marked (choose t m (m ⊕ 2 ^ b)) s ≡ insert b (marked m) s
+    at : (t : Bool) → marked m b ≡ t → Dec (s ≡ b) → marked (cond t m (m ⊕ 2 ^ b)) s ≡ insert b (marked m) s
     at true e (yes q) = rw q (e ∙ sym (insert-same b (marked m)))
     at false e (yes q) = rw q (turned m b ∙ ap not e ∙ sym (insert-same b (marked m)))
     at true e (no q) = sym (insert-other b (marked m) s q)
     at false e (no q) = turned-other m b s q ∙ sym (insert-other b (marked m) s q)
 
-pub remove-same : (b : ℕ) (S : ℕ → Bool) → remove b S b ≡ false
-unfolding remove
-remove-same b S = rw (eq-eqb b b refl)
-
-pub remove-other : (b : ℕ) (S : ℕ → Bool) (s : ℕ) → (s ≡ b → ⊥) → remove b S s ≡ S s
-unfolding remove
-remove-other b S s h = rw (ne-eqb s b h)
-
 pub marked-without : (m b s : ℕ) → marked (withoutMark m b) s ≡ remove b (marked m) s
 unfolding withoutMark
 marked-without m b s = at (marked m b) refl (ℕ-discrete s b)
   where
-    at : (t : Bool) → marked m b ≡ t → Dec (s ≡ b) → marked (choose t (m ⊕ 2 ^ b) m) s ≡ remove b (marked m) s
+    at : (t : Bool) → marked m b ≡ t → Dec (s ≡ b) → marked (cond t (m ⊕ 2 ^ b) m) s ≡ remove b (marked m) s
     at true e (yes q) = rw q (turned m b ∙ ap not e ∙ sym (remove-same b (marked m)))
     at false e (yes q) = rw q (e ∙ sym (remove-same b (marked m)))
     at true e (no q) = turned-other m b s q ∙ sym (remove-other b (marked m) s q)
@@ -88,27 +80,6 @@ marked-without m b s = at (marked m b) refl (ℕ-discrete s b)
 pub marked-zero : (s : ℕ) → marked 0 s ≡ false
 unfolding marked
 marked-zero s = rw (zero-div (2 ^ s))
-
--- ---- 64 bits
-
-turned-lt : (m b : ℕ) → m < 2 ^ 64 → b < 64 → m ⊕ 2 ^ b < 2 ^ 64
-turned-lt m b h l = ⊕-bits 64 m (2 ^ b) h (pow-above b 64 l)
-
-pub with-lt : (m b : ℕ) → m < 2 ^ 64 → b < 64 → withMark m b < 2 ^ 64
-unfolding withMark
-with-lt m b h l = at (marked m b)
-  where
-    at : (t : Bool) → choose t m (m ⊕ 2 ^ b) < 2 ^ 64
-    at true = h
-    at false = turned-lt m b h l
-
-pub without-lt : (m b : ℕ) → m < 2 ^ 64 → b < 64 → withoutMark m b < 2 ^ 64
-unfolding withoutMark
-without-lt m b h l = at (marked m b)
-  where
-    at : (t : Bool) → choose t (m ⊕ 2 ^ b) m < 2 ^ 64
-    at true = turned-lt m b h l
-    at false = h
 
 -- ---- the marks from a block on
 
@@ -167,8 +138,3 @@ past-none m n h =
 
 pub none-from : (m n : ℕ) → noneFrom m n ≡ true ↔ ((b : ℕ) → n ≤ b → marked m b ≡ false)
 none-from m n = (none-past m n, past-none m n)
-
--- a number of 64 bits has no mark from 64 on
-pub marked-lt : (m : ℕ) → m < 2 ^ 64 → (b : ℕ) → 64 ≤ b → marked m b ≡ false
-unfolding noneFrom
-marked-lt m h = none-past m 64 (lt-ltb m (2 ^ 64) h)

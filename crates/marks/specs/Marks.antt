@@ -1,6 +1,6 @@
 -- Believed: document 01, "A depot pair worked through": "eight bytes of lost marks (lowest bit block 0)". A set of blocks as a number of 64 bits, in
 -- which bit b is the mark of block b. Every number is a set; what is below uses the laws in proofs/Bits and looks at no bit.
-use mathlib.Core.Bool.{Bool, true, false, not, _&&_}
+use mathlib.Core.Bool.{Bool, cond}
 use Prim.Native.Nat.{ℕ, _/_, _%_, _^_}
 use lib.Dec.{eqb, ltb}
 use Rattle.field.specs.Field.{_⊕_}
@@ -9,21 +9,13 @@ use Rattle.field.specs.Field.{_⊕_}
 unfoldable pub marked : ℕ → ℕ → Bool
 marked m b = eqb (m / 2 ^ b % 2) 1
 
-abbrev pub choose : Bool → ℕ → ℕ → ℕ
-choose true x y = x
-choose false x y = y
-
 -- m with the mark of block b
 unfoldable pub withMark : ℕ → ℕ → ℕ
-withMark m b = choose (marked m b) m (m ⊕ 2 ^ b)
+withMark m b = cond (marked m b) m (m ⊕ 2 ^ b)
 
 -- m without the mark of block b
 unfoldable pub withoutMark : ℕ → ℕ → ℕ
-withoutMark m b = choose (marked m b) (m ⊕ 2 ^ b) m
-
--- the set S without the block b
-unfoldable pub remove : ℕ → (ℕ → Bool) → ℕ → Bool
-remove b S s = not (eqb s b) && S s
+withoutMark m b = cond (marked m b) (m ⊕ 2 ^ b) m
 
 -- no block from n on is marked: m is below the first number that has the mark of block n
 unfoldable pub noneFrom : ℕ → ℕ → Bool

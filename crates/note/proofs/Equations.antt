@@ -3,7 +3,7 @@
 -- looks at the count.
 use Prim.Native.Nat.{ℕ, zero, suc, _+_, _-_, _*_, _≤_, _<_}
 use mathlib.Core.Path.{_≡_, refl, sym, _∙_, ap}
-use mathlib.Core.Bool.{Bool, true, false}
+use mathlib.Core.Bool.{Bool, true, false, cond}
 use mathlib.Core.List.{List}
 use native.Mathlib.Omega.{arith}
 use native.Mathlib.Numerals.{add-one}
@@ -12,7 +12,7 @@ use borrow.Author.Tests.{eqb-true, eqb-false, eq-eqb, ne-eqb}
 use Rattle.note.specs.declared.reader.Head.{Head}
 use Rattle.note.specs.declared.reader.Head.the-variants.{Bad, Leaf, Branch}
 use Rattle.groups.specs.declared.Walk.{Walk}
-use Rattle.groups.specs.Groups.{pick, ifEq, refusedAt, entered, closed}
+use Rattle.groups.specs.Groups.{ifEq, refusedAt, entered, closed}
 use Rattle.note.specs.Note.{headAt, byHead, goOn, next, groupOf, membersOf, groupRead, membersRead}
 use Rattle.groups.specs.Inner.{Sound}
 use Rattle.groups.proofs.Picks.{lt-yes, lt-no, eq-yes, eq-no, by-lt, by-eq}
@@ -50,7 +50,7 @@ ifEq-same : (a b : ℕ) (x y z : Walk) → ((a ≡ b → ⊥) → y ≡ z) → i
 unfolding ifEq
 ifEq-same a b x y z f = cases (eqb a b) refl
   where
-    cases : (t : Bool) → eqb a b ≡ t → pick t x y ≡ pick t x z
+    cases : (t : Bool) → eqb a b ≡ t → cond t x y ≡ cond t x z
     cases true e = refl
     cases false e = f (eqb-false a b e)
 

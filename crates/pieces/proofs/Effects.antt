@@ -1,13 +1,12 @@
 -- Proved: what the functions on lists leave is what `calls` says of a stripe: an encoding, a repair, a block as its plan makes it. And bytes
 -- that stand where a coefficient is zero, as in a lost block, count for nothing.
 use mathlib.Core.List.{List}
-use mathlib.Core.Bool.{Bool, true, false}
-use mathlib.Core.Path.{_≡_, refl, sym, ap, _∙_}
+use mathlib.Core.Bool.{Bool, false}
+use mathlib.Core.Path.{_≡_, sym, ap, _∙_}
 use Prim.Native.Nat.{ℕ, _+_, _*_, _<_, _≤_}
 use native.Mathlib.Omega.{arith}
 use native.Mathlib.Decide.{decLt}
 use lib.ListN.{length, getD}
-use lib.Seq.{ext-getD}
 use Rattle.field.specs.Field.{mul}
 use Rattle.field.proofs.Product.{mul-zero-l}
 use Rattle.linear.specs.Sums.{sumTo}
@@ -15,11 +14,9 @@ use Rattle.linear.specs.Combinations.{comb}
 use Rattle.linear.specs.Blocks.{dot}
 use Rattle.linear.specs.Solved.{vec, rowOf}
 use Rattle.linear.proofs.Sums.{sum-cong, sum-less}
-use Rattle.calls.specs.Code.{Code, Proper, enc, PlanOf}
-use Rattle.calls.specs.Calls.{stripe, Encoded, ByPlan, Repaired}
-use Rattle.calls.specs.Demands.{Alike}
-use Rattle.calls.proofs.Plans.{plan-none}
-use Rattle.pieces.specs.Pieces.{byteOf, Others, Gathered, Made, Encodable, EncodedList}
+use Rattle.calls.specs.Code.{Code, enc, PlanOf}
+use Rattle.calls.specs.Calls.{byteOf, stripe, Encoded, ByPlan, Repaired}
+use Rattle.pieces.specs.Pieces.{Makeable, Gathered, Made, Encodable, EncodedList}
 use Rattle.pieces.proofs.Blocks.{under}
 use Rattle.pieces.proofs.Combining.{comb-agree, sources}
 
@@ -90,48 +87,13 @@ module _ {coef : List ℕ} {len b : ℕ} (c : Code) (lost : ℕ → Bool) (e : c
       at a x n l (yes h) = M .before (a * len + x) (omega (arith, under len a b h))
       at a x n l (no h) = M .after (a * len + x) (omega (arith, under len b a (omega arith)))
 
--- a plan asks for blocks of the stripe, and not for the lost block that it makes
-pub plan-others : {coef xs : List ℕ} {len b : ℕ} (c : Code) → Proper c → (lost : ℕ → Bool) → b < c .n → lost b ≡ true → Planned c lost b coef
-    → length coef ≤ 48 → len ≤ 1024 → length xs ≡ c .n * len → Others xs coef len b
-plan-others {coef} {xs} {len} {b} c p lost l o P h k w =
-    record {
-      sources = sources (c .n) h (P .past) (omega arith);
-      unread = λ m. plan-none c p lost b l (P .plan) b l o;
-      room = omega (arith, under len b (c .n) l);
-      short = k;
-    }
+-- a plan asks for blocks of the stripe
+pub plan-makeable : {coef xs : List ℕ} {len b : ℕ} (c : Code) (lost : ℕ → Bool) → b < c .n → Planned c lost b coef
+    → len ≤ 1024 → length xs ≡ c .n * len → Makeable xs coef len b
+plan-makeable {coef} {xs} {len} {b} c lost l P k w =
+    record { sources = sources (c .n) (P .past) (omega arith); room = omega (arith, under len b (c .n) l); short = k }
 
 -- ---- bytes that are never read
-
--- two stripes agree in every block whose coefficient is not zero
-pub record AlikeFor (coef : List ℕ) (len : ℕ) (xs xs′ : List ℕ) : Type 0 where
-  pub bytes : (s x : ℕ) → s < length coef → (getD coef s 0 ≡ 0 → ⊥) → x < len → byteOf len xs′ s x ≡ byteOf len xs s x
-
--- two that agree on the survivors do so for any plan
-pub survivors-alike : {coef xs xs′ : List ℕ} {len b : ℕ} (c : Code) → Proper c → c .L ≡ len → (lost : ℕ → Bool) → b < c .n → Planned c lost b coef
-    → Alike c (stripe len lost xs) (stripe len lost xs′) → AlikeFor coef len xs xs′
-survivors-alike {coef} {xs} {xs′} {len} {b} c p e lost l P A = record { bytes = λ s x h z m. at s x h z m (decLt s (c .n)) (lost s) refl }
-  where
-    at : (s x : ℕ) → s < length coef → (getD coef s 0 ≡ 0 → ⊥) → x < len → Dec (s < c .n) → (t : Bool) → lost s ≡ t
-        → byteOf len xs′ s x ≡ byteOf len xs s x
-    at s x h z m (yes k) true o = absurd (z (plan-none c p lost b l (P .plan) s k o))
-    at s x h z m (yes k) false o = A .bytes s x k o (omega (arith, e))
-    at s x h z m (no k) t o = absurd (z (P .past s (omega arith) h))
-
-module _ {coef xs xs′ : List ℕ} {len : ℕ} (A : AlikeFor coef len xs xs′) where
-  comb-alike : (x : ℕ) → x < len → comb (length coef) (vec coef) (byteOf len xs′) x ≡ comb (length coef) (vec coef) (byteOf len xs) x
-  comb-alike x l = comb-agree (length coef) (vec coef) (byteOf len xs′) (byteOf len xs) x (λ s h z. A .bytes s x h z l)
-
-  -- give the same block into the spare
-  pub gathered-alike : {r r′ : List ℕ} → Gathered coef xs len r → Gathered coef xs′ len r′ → r′ ≡ r
-  gathered-alike {r} {r′} G H =
-      ext-getD 0 r′ r (H .long ∙ sym (G .long))
-      (λ x l. let h : x < len = omega (arith, H .long) in H .at x h ∙ comb-alike x h ∙ sym (G .at x h))
-
-  -- and the same block in its place
-  pub made-alike : {ys ys′ : List ℕ} {b : ℕ} → Made coef len b xs ys → Made coef len b xs′ ys′ → (x : ℕ) → x < len
-      → byteOf len ys′ b x ≡ byteOf len ys b x
-  made-alike M N x l = N .block x l ∙ comb-alike x l ∙ sym (M .block x l)
 
 -- stripes with the same data are encoded alike
 pub encoded-alike : {rows xs xs′ ys ys′ : List ℕ} {k n len : ℕ} → Encodable rows xs k n len

@@ -9,6 +9,7 @@ use native.Mathlib.Numerals.{add-one}
 use native.Mathlib.Omega.{arith}
 use native.Mathlib.Decide.{ℕ-discrete}
 use lib.ListN.{length}
+use borrow.Author.Tests.{not-true, not-false}
 use Rattle.linear.specs.declared.Answer as Linear
 use Rattle.linear.proofs.Sets.{in-and-out}
 use Rattle.groups.specs.declared.Layout.{Layout}
@@ -16,14 +17,14 @@ use Rattle.given.specs.Given.{Given}
 use Rattle.marks.specs.Marks.{marked, withoutMark}
 use Rattle.rows.specs.Rows.{blocks}
 use Rattle.calls.specs.Calls.{stripe, rebuild, Repairs, start, pass, next}
-use Rattle.calls.proofs.Answers.{Lowest, repair-met, rebuild-done, rebuild-named}
+use Rattle.calls.specs.Demands.{Lowest}
+use Rattle.calls.proofs.Answers.{unmet-lost, repair-met, rebuild-done, rebuild-named}
 use Rattle.calls.proofs.Rebuilds.{repairs-above, repairs-accepted}
 use Rattle.plan.specs.declared.Standing.{Standing}
 use Rattle.plan.specs.Codes.{codeOf, Sound}
 use Rattle.plan.specs.Inner.{Coefficients}
 use Rattle.plan.proofs.Codes.{code-proper}
-use Rattle.plan.proofs.Verdicts.{not-yes, not-no}
-use Rattle.pieces.specs.Pieces.{Others, Made}
+use Rattle.pieces.specs.Pieces.{Makeable, Made}
 use Rattle.repairs.specs.declared.Rebuilding.the-variants.{Whole, Denied, NoPlan}
 use Rattle.plan.specs.Front.{FrontSays}
 use Rattle.repairs.specs.Turns.{Mendable, Lacks, LowestIs, Due, Turned, Ready, Restored}
@@ -42,12 +43,17 @@ module _ (l : Layout) (lost b : ℕ) where
   pub lacks-judged : Given l → b < blocks l → marked lost b ≡ true → {a : Linear.Answer} → Coefficients l lost b a → Lacks l lost b (not (a .found))
   lacks-judged given below gone {a} x =
       record {
-        no = λ h _. has-plan l given 1 lost b x below (not-yes (a .found) h);
-        yes = λ h f. x .none (not-no (a .found) h) (f gone);
+        no = λ h _. has-plan l given 1 lost b x below (not-false (a .found) h);
+        yes = λ h f. x .none (not-true (a .found) h) (f gone);
       }
 
   pub lowest-here : b ≤ blocks l → ((a : ℕ) → a < b → Mendable l lost a) → {r : Bool} → Lacks l lost b r → r ≡ true → LowestIs l lost b
-  lowest-here h f x e = record { most = h; below = f; here = λ _. x .yes e }
+  lowest-here h f x e =
+      record {
+        most = h;
+        below = f;
+        here = λ k. record { below = k; gone = unmet-lost (marked lost b) (x .yes e); none = λ p. x .yes e (λ _. p); least = f };
+      }
 
   pub lowest-none : b ≡ blocks l → ((a : ℕ) → a < b → Mendable l lost a) → LowestIs l lost b
   lowest-none h f = record { most = omega arith; below = f; here = λ k. omega arith }
@@ -73,8 +79,8 @@ module _ (l : Layout) (lost len b : ℕ) (xs : List ℕ) (d : Due l lost len b x
         at true e = e
         at false e = absurd (x .none e (d .plan gone))
 
-    pub turn-others : Others xs (a .coef) len b
-    turn-others = mendable l (d .given) len lost b x turn-found xs (d .number) gone (d .short) (d .whole)
+    pub turn-makeable : Makeable xs (a .coef) len b
+    turn-makeable = mendable l (d .given) len lost b x turn-found xs (d .number) (d .short) (d .whole)
 
     pub turn-done : (ys : List ℕ) (m : ℕ) → m ≡ withoutMark lost b → Made (a .coef) len b xs ys → Turned l lost len b xs ys m
     turn-done ys m q M =
@@ -136,12 +142,9 @@ module _ (l : Layout) (st : Standing) (xs : List ℕ) where
           long = refl;
         }
       where
-        gone : (t : Bool) → marked (st .lost) w ≡ t → marked (st .lost) w ≡ true
-        gone true e = e
-        gone false e = absurd (x .here h (λ o. in-and-out o e))
-
+        -- L is of no account
         lowest : Lowest (codeOf l (st .len)) (marked (st .lost)) w
-        lowest = record { below = h; gone = gone (marked (st .lost) w) refl; none = λ p. x .here h (λ _. p); least = x .below }
+        lowest = let y = x .here h in record { below = y .below; gone = y .gone; none = y .none; least = y .least }
 
     module _ (w : ℕ) (x : LowestIs l (st .lost) w) (h : blocks l ≤ w) where
       pub rebuild-ready : Ready l (st .lost) (st .len) xs

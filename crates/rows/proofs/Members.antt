@@ -1,12 +1,12 @@
 -- Proved: every branch of a given layout has members that fill it exactly, and the split of source document 001 over them: the parts of one row over
 -- the members of a branch add up to that row over the branch.
 use mathlib.Core.Path.{_≡_, refl, sym, _∙_, ap}
-use mathlib.Core.Bool.{Bool, false, _||_}
+use mathlib.Core.Bool.{Bool, false, _||_, cond}
 use Prim.Native.Nat.{ℕ, zero, suc, _+_, _<_, _≤_}
 use native.Mathlib.Omega.{arith}
 use native.Mathlib.Decide.{decLt}
 use Rattle.field.specs.Field.{_⊕_, coef}
-use Rattle.linear.specs.Sums.{sumTo, pick}
+use Rattle.linear.specs.Sums.{sumTo}
 use Rattle.groups.specs.Groups.{groupAt}
 use Rattle.given.specs.Given.{Given}
 use Rattle.given.specs.Facts.{datasBefore, Proper}
@@ -44,7 +44,7 @@ among-join a p q i = at (decLt i a) (decLt i (a + p)) (decLt i (a + p + q))
 
 part-same : (j : ℕ) (S T : ℕ → Bool) (i : ℕ) → S i ≡ T i → part j S i ≡ part j T i
 unfolding part
-part-same j S T i e = ap (λ (t : Bool). pick t (coef j i) 0) e
+part-same j S T i e = ap (λ (t : Bool). cond t (coef j i) 0) e
 
 member-next : (l : Layout) (g x : ℕ) → member l g (suc x) ≡ member l g x + groupAt l (member l g x) .size
 unfolding member

@@ -1,7 +1,7 @@
 -- Proved: facts on given rows by one computed test each: a combination by its terms, none by data that tell the target from the rows, and a plan
 -- by its terms and, for each survivor in its order, a reason to keep it or to pass it over.
 use mathlib.Core.Path.{_≡_, refl, sym, ap₂, _∙_}
-use mathlib.Core.Bool.{Bool, true, false}
+use mathlib.Core.Bool.{Bool, true, false, cond}
 use mathlib.Core.List.{List, [], _∷_}
 use Prim.Native.Nat.{ℕ, suc, _<_}
 use native.Mathlib.Omega.{arith}
@@ -11,7 +11,7 @@ use Rattle.field.specs.Field.{_⊕_, mul}
 use Rattle.field.proofs.Table.{both, both-left, both-right, all, below}
 use Rattle.field.proofs.Xor.{⊕-zero-r, ⊕-lt}
 use Rattle.linear.specs.Sets.{none, insert}
-use Rattle.linear.specs.Sums.{pick, put}
+use Rattle.linear.specs.Sums.{put}
 use Rattle.linear.specs.Combinations.{comb, Combo}
 use Rattle.linear.specs.Greedy.{Kept, begin, keeps, skips, IsPlan}
 use Rattle.linear.specs.Blocks.{dot}
@@ -40,7 +40,7 @@ makes n w R S v l = both (fit n S l) (all (λ i. eqb (v i) (termSum R l i)) w)
 
 -- for the data d the block whose row is v is not zero, and every block of S is
 abbrev pub tells : (n w : ℕ) → (ℕ → ℕ → ℕ) → (ℕ → Bool) → (ℕ → ℕ) → List ℕ → Bool
-tells n w R S v d = both (ltb 0 (dot w v (vec d))) (all (λ s. eqb (pick (S s) (dot w (R s) (vec d)) 0) 0) n)
+tells n w R S v d = both (ltb 0 (dot w v (vec d))) (all (λ s. eqb (cond (S s) (dot w (R s) (vec d)) 0) 0) n)
 
 module _ (n w : ℕ) (R : ℕ → ℕ → ℕ) (S : ℕ → Bool) where
   coefs-sum : (l : List Term) → T (fit n S l) → (i : ℕ) → comb n (coefs l) R i ≡ termSum R l i
@@ -98,10 +98,10 @@ module _ (n w : ℕ) (R : ℕ → ℕ → ℕ) (S : ℕ → Bool) where
   -- NO COMBINATION, BY DATA
   pub none-by-data : (v : ℕ → ℕ) (d : List ℕ) → T (tells n w R S v d) → Combo n w R S v → ⊥
   none-by-data v d o =
-      apart-by w n R (vec d) (λ s l h. at s h (eqb→eq _ 0 (below (λ s. eqb (pick (S s) (dot w (R s) (vec d)) 0) 0) n (both-right (ltb 0 (dot w v (vec d))) _ o) s l)))
+      apart-by w n R (vec d) (λ s l h. at s h (eqb→eq _ 0 (below (λ s. eqb (cond (S s) (dot w (R s) (vec d)) 0) 0) n (both-right (ltb 0 (dot w v (vec d))) _ o) s l)))
       (λ z. omega (arith, ltb→lt 0 (dot w v (vec d)) (both-left (ltb 0 (dot w v (vec d))) _ o)))
     where
-      at : (s : ℕ) → S s ≡ true → pick (S s) (dot w (R s) (vec d)) 0 ≡ 0 → dot w (R s) (vec d) ≡ 0
+      at : (s : ℕ) → S s ≡ true → cond (S s) (dot w (R s) (vec d)) 0 ≡ 0 → dot w (R s) (vec d) ≡ 0
       at s h = rw h (λ x. x)
 
 -- ---- the greedy choice
