@@ -17,6 +17,7 @@ use Rattle.rows.specs.Rows.{blocks}
 use Rattle.calls.specs.Code.{Code}
 use Rattle.calls.specs.Calls as Calls
 use Rattle.calls.specs.Calls.{Stripe, Call, Need, rebuild, Refusal, by, naming, done, refused, Verdict, Outcome, Spare}
+use Rattle.calls.specs.Demands.{Lowest}
 use Rattle.calls.proofs.Needs.{done-met}
 use Rattle.calls.proofs.Lists.{untouched-list}
 use Rattle.calls.proofs.Answers.{rebuild-refused}
@@ -39,7 +40,7 @@ use Rattle.stripe.proofs.Viewing.{inside}
 use Rattle.store.specs.declared.Said.{Said}
 use Rattle.store.specs.Answers.{spoken, named}
 use Rattle.store.specs.Store.{Encode, Lose, Repair, Rebuild, Plan, Correct, Fetch, View, Price, Read}
-use Rattle.demands.specs.Table.{Answered, Lowest, encode-asks, lose-asks, plan-asks, repair-asks, rebuild-asks, correct-asks, fetch-asks, price-asks, number, price-number}
+use Rattle.demands.specs.Table.{Answered, encode-asks, lose-asks, plan-asks, repair-asks, rebuild-asks, correct-asks, fetch-asks, price-asks, number, price-number}
 use Rattle.demands.proofs.Rows.{number-of, answered, encode-agrees, lose-agrees, plan-agrees, repair-agrees, rebuild-agrees, correct-agrees, fetch-agrees, price-agrees}
 
 -- ---- numbers
@@ -175,17 +176,15 @@ named-number (NoPlan b) e = ap (λ (r : Said). r .number) (sym e)
 module _ (l : Layout) (st : Standing) {P : Type 0} where
   -- after 6, 7 and 8 a rebuild is refused by the lowest lost block without a plan
   lowest : {r : Refusal} → Verdict (front l st P) (codeOf l (st .len)) (marked (st .lost)) rebuild (refused r) → number-of (refused r) ≡ 14
-      → (b : ℕ) × (r ≡ naming 14 b) × Lowest l (st .lost) b
+      → (b : ℕ) × (r ≡ naming 14 b) × Lowest (codeOf l (st .len)) (marked (st .lost)) b
   lowest v e =
       let six = done-met (not-by e (omega arith)) (v .first) in
       let seven = done-met (not-by e (omega arith)) (six .1) in
       let eight = done-met (not-by e (omega arith)) (seven .1) in
-      let x = rebuild-refused (codeOf l (st .len)) (marked (st .lost)) (record { first = eight .1 }) in
-      let y = x .2 in
-      (x .0, x .1, record { below = y .below; stuck = (y .gone, y .none); lower = λ a h w. w .1 (y .least a h (w .0)) })
+      rebuild-refused (codeOf l (st .len)) (marked (st .lost)) (record { first = eight .1 })
 
   lowest-named : (a : Rebuilding) → Verdict (front l st P) (codeOf l (st .len)) (marked (st .lost)) rebuild (told a) → number-of (told a) ≡ 14
-      → Lowest l (st .lost) (named a .block)
+      → Lowest (codeOf l (st .len)) (marked (st .lost)) (named a .block)
   lowest-named Whole v e = absurd (omega arith)
   lowest-named (Denied m) v e =
       let x = lowest v e in
@@ -201,7 +200,8 @@ module _ (l : Layout) (st : Standing) {P : Type 0} where
 module _ {l : Layout} {st : Standing} where
   -- A REBUILD is refused by 6, 7, 8 or 14, which "names the lowest block without a plan"; a refusal keeps the stripe and the standing
   pub demand-1-rebuild : {xs ys : List ℕ} {r : Said} {st′ : Standing} → Rebuild l st xs r st′ ys
-      → Answered (rebuild-asks l st (length xs)) (r .number) ((st′ ≡ st) × (ys ≡ xs)) × (r .number ≡ 14 → Lowest l (st .lost) (r .block))
+      → Answered (rebuild-asks l st (length xs)) (r .number) ((st′ ≡ st) × (ys ≡ xs))
+      × (r .number ≡ 14 → Lowest (codeOf l (st .len)) (marked (st .lost)) (r .block))
   demand-1-rebuild {xs} {r = r} h =
       let a = told (h .answer) in
       let d = h .does in

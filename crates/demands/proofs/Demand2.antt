@@ -21,9 +21,9 @@ use Rattle.calls.specs.Code.{Code, HasPlan, enc}
 use Rattle.calls.specs.Calls as Calls
 use Rattle.calls.specs.Calls.{Stripe, Call, Need, First, needs, by, done, refused, encode, lose, repair, rebuild, correct, fetch, Verdict, Outcome, Step}
 use Rattle.calls.specs.Demands as Demands
-use Rattle.calls.specs.Demands.{Holds, Alike, Fixed, Written, Independents}
+use Rattle.calls.specs.Demands.{Holds, Alike, Lowest, Fixed, Written, Independents}
 use Rattle.calls.proofs.Needs.{undone, past, done-met, All-met, none, also}
-use Rattle.calls.proofs.Answers.{verdict-unique, sound-step, done-step, Lowest, rebuild-done, rebuild-refused}
+use Rattle.calls.proofs.Answers.{verdict-unique, sound-step, done-step, rebuild-done, rebuild-refused}
 use Rattle.calls.proofs.Plans.{fixed-iff, plan-none, plan-back}
 use Rattle.calls.proofs.Rebuilds.{rebuild-right}
 use Rattle.calls.proofs.Demand2 as Codes

@@ -129,12 +129,6 @@ pub record Answered (rs : List Row) (number : ℕ) (kept : Type 0) : Type 0 wher
   -- "A refusal changes not one byte of what we lent, nor the list of lost blocks."
   pub keeps : (number ≡ 0 → ⊥) → kept
 
--- a rebuild's 14 "names the lowest block without a plan"
-pub record Lowest (l : Layout) (lost b : ℕ) : Type 0 where
-  pub below : b < blocks l
-  pub stuck : Stuck l lost b
-  pub lower : (a : ℕ) → a < b → Stuck l lost a → ⊥
-
 -- the number that an answer is: 0 for accepted
 abbrev pub number : Answer → ℕ
 number Done = 0

@@ -16,7 +16,8 @@ use Rattle.given.specs.Given.{Given}
 use Rattle.marks.specs.Marks.{marked, withoutMark}
 use Rattle.rows.specs.Rows.{blocks}
 use Rattle.calls.specs.Calls.{stripe, rebuild, Repairs, start, pass, next}
-use Rattle.calls.proofs.Answers.{Lowest, repair-met, rebuild-done, rebuild-named}
+use Rattle.calls.specs.Demands.{Lowest}
+use Rattle.calls.proofs.Answers.{unmet-lost, repair-met, rebuild-done, rebuild-named}
 use Rattle.calls.proofs.Rebuilds.{repairs-above, repairs-accepted}
 use Rattle.plan.specs.declared.Standing.{Standing}
 use Rattle.plan.specs.Codes.{codeOf}
@@ -47,10 +48,15 @@ module _ (l : Layout) (lost b : ℕ) where
       }
 
   pub lowest-here : b ≤ blocks l → ((a : ℕ) → a < b → Mendable l lost a) → {r : Bool} → Lacks l lost b r → r ≡ true → LowestIs l lost b
-  lowest-here h f x e = record { most = h; below = f; here = λ _. x .yes e }
+  lowest-here h f x e =
+      record {
+        most = h;
+        below = f;
+        here = λ k. record { below = k; gone = unmet-lost (marked lost b) (x .yes e); none = λ p. x .yes e (λ _. p); least = f };
+      }
 
   pub lowest-none : b ≡ blocks l → ((a : ℕ) → a < b → Mendable l lost a) → LowestIs l lost b
-  lowest-none h f = record { most = omega arith; below = f; here = λ k. omega arith }
+  lowest-none h f = record { most = omega arith; below = f; here = λ k. absurd (omega arith) }
 
   pub one-more : ((a : ℕ) → a < b → Mendable l lost a) → {r : Bool} → Lacks l lost b r → r ≡ false → (a : ℕ) → a < b + 1 → Mendable l lost a
   one-more f x e a h = at (ℕ-discrete a b)
@@ -136,12 +142,9 @@ module _ (l : Layout) (st : Standing) (xs : List ℕ) where
           long = refl;
         }
       where
-        gone : (t : Bool) → marked (st .lost) w ≡ t → marked (st .lost) w ≡ true
-        gone true e = e
-        gone false e = absurd (x .here h (λ o. in-and-out o e))
-
+        -- L is of no account
         lowest : Lowest (codeOf l (st .len)) (marked (st .lost)) w
-        lowest = record { below = h; gone = gone (marked (st .lost) w) refl; none = λ p. x .here h (λ _. p); least = x .below }
+        lowest = let y = x .here h in record { below = y .below; gone = y .gone; none = y .none; least = y .least }
 
     module _ (w : ℕ) (x : LowestIs l (st .lost) w) (h : blocks l ≤ w) where
       pub rebuild-ready : Ready l (st .lost) (st .len) xs
