@@ -28,6 +28,7 @@ use Rattle.plan.specs.declared.Planned.{Planned}
 use Rattle.plan.specs.Codes.{codeOf, front}
 use Rattle.plan.specs.Plans.{said}
 use Rattle.plan.specs.Listing.{blank}
+use Rattle.plan.proofs.Verdicts.{number-of}
 use Rattle.price.specs.declared.Limits.{Limits}
 use Rattle.price.specs.declared.Price as Sheet
 use Rattle.price.specs.Sheet as Sheets
@@ -41,7 +42,7 @@ use Rattle.store.specs.declared.Said.{Said}
 use Rattle.store.specs.Answers.{spoken, named}
 use Rattle.store.specs.Store.{Encode, Lose, Repair, Rebuild, Plan, Correct, Fetch, View, Price, Read}
 use Rattle.demands.specs.Table.{Answered, encode-asks, lose-asks, plan-asks, repair-asks, rebuild-asks, correct-asks, fetch-asks, price-asks, number, price-number}
-use Rattle.demands.proofs.Rows.{number-of, answered, encode-agrees, lose-agrees, plan-agrees, repair-agrees, rebuild-agrees, correct-agrees, fetch-agrees, price-agrees}
+use Rattle.demands.proofs.Rows.{answered, encode-agrees, lose-agrees, plan-agrees, repair-agrees, rebuild-agrees, correct-agrees, fetch-agrees, price-agrees}
 
 -- ---- numbers
 

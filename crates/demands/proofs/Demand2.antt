@@ -20,8 +20,7 @@ use Rattle.rows.proofs.Parts.{row-byte}
 use Rattle.calls.specs.Code.{Code, HasPlan, enc}
 use Rattle.calls.specs.Calls as Calls
 use Rattle.calls.specs.Calls.{Stripe, Call, Need, First, needs, by, done, refused, encode, lose, repair, rebuild, correct, fetch, Verdict, Outcome, Step}
-use Rattle.calls.specs.Demands as Demands
-use Rattle.calls.specs.Demands.{Holds, Alike, Lowest, Fixed, Written, Independents}
+use Rattle.calls.specs.Demands.{Holds, Alike, Lowest, Fixed, Written, RefusedOrWritten, Independents}
 use Rattle.calls.proofs.Needs.{undone, past, done-met, All-met, none, also}
 use Rattle.calls.proofs.Answers.{verdict-unique, sound-step, done-step, rebuild-done, rebuild-refused}
 use Rattle.calls.proofs.Plans.{fixed-iff, plan-none, plan-back}
@@ -163,7 +162,7 @@ module _ {l : Layout} {st st′ : Standing} {xs ys : List ℕ} {r : Said} where
   demand-2-repair {b} sound below lost h =
       at (Codes.demand-2 (codeOf l (st .len)) (code-proper l (sound .given) (st .len)) (said (h .answer)) below lost (sound-step (met l st _ sound) .0 (h .does .outcome)))
     where
-      at : Demands.Decided (codeOf l (st .len)) (stripeOf st xs) b (said (h .answer)) (λ x. getD ys (b * st′ .len + x) 0)
+      at : RefusedOrWritten (codeOf l (st .len)) (stripeOf st xs) b (said (h .answer)) (λ x. getD ys (b * st′ .len + x) 0)
           → Decided (codeOf l (st .len)) (marked (st .lost)) b (r .number ≡ 14) (r .number ≡ 0)
           (Written (codeOf l (st .len)) (stripeOf st xs) b (λ x. getD ys (b * st .len + x) 0))
       at (inl x) = inl (x .0, the-number (h .said) ∙ spoken-14 (h .answer) (x .1))
@@ -184,7 +183,7 @@ demand-2-fetch {l} {st} {xs} {old} {new} {b} {r} sound below lost room h = at (C
     fetched : Calls.Fetch [] (codeOf l (st .len)) (stripeOf st xs) b old (said r) (stripeOf st xs) new
     fetched = record { outcome = sound-step (met l st _ sound) .0 (h .fetch .outcome); spare = h .fetch .spare }
 
-    at : Demands.Decided (codeOf l (st .len)) (stripeOf st xs) b (said r) (λ x. getD new x 0)
+    at : RefusedOrWritten (codeOf l (st .len)) (stripeOf st xs) b (said r) (λ x. getD new x 0)
         → Decided (codeOf l (st .len)) (marked (st .lost)) b (r ≡ Refused 14) (r ≡ Done)
         (Written (codeOf l (st .len)) (stripeOf st xs) b (λ x. getD new x 0))
     at (inl x) = inl (x .0, said-14 r (x .1))

@@ -113,10 +113,10 @@ reads-few l given lost b below {a} x e =
 -- ---- at most one answer
 
 -- the number of an answer
-abbrev numbered : Calls.Answer → ℕ
-numbered done = 0
-numbered (refused (by number)) = number
-numbered (refused (naming number b)) = number
+abbrev pub number-of : Calls.Answer → ℕ
+number-of done = 0
+number-of (refused (by number)) = number
+number-of (refused (naming number b)) = number
 
 module _ (l : Layout) (st : Standing) (b : ℕ) {p q : Planned} (x : Plans l st b p) (y : Plans l st b q) where
   alike : p .answer ≡ q .answer → p .plan ≡ q .plan → p ≡ q
@@ -147,5 +147,5 @@ module _ (l : Layout) (st : Standing) (b : ℕ) {p q : Planned} (x : Plans l st 
       at Done e (Refused m) f s = absurd (undone _ (sym (ap said e) ∙ s ∙ ap said f))
       at (Refused m) e Done f s = absurd (undone _ (sym (ap said f) ∙ sym s ∙ ap said e))
       at (Refused m) e (Refused k) f s =
-          let same : m ≡ k = ap numbered (sym (ap said e) ∙ s ∙ ap said f) in
+          let same : m ≡ k = ap number-of (sym (ap said e) ∙ s ∙ ap said f) in
           alike (e ∙ ap Refused same ∙ sym f) (x .nothing m e ∙ sym (y .nothing k f))

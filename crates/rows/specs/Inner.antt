@@ -39,7 +39,7 @@ pub record Homed (g : Group) (k n b : ℕ) : Type 0 where
 -- ---- stores
 
 -- the i entries from `at` on are those of f, and those before `at` are as they were
-pub record Written (at : ℕ) (f : ℕ → ℕ) (i : ℕ) (old new : List ℕ) : Type 0 where
+pub record RowWritten (at : ℕ) (f : ℕ → ℕ) (i : ℕ) (old new : List ℕ) : Type 0 where
   pub long : length new ≡ length old
   pub here : (p : ℕ) → p < i → getD new (at + p) 0 ≡ f p
   pub under : (q : ℕ) → q < at → getD new q 0 ≡ getD old q 0

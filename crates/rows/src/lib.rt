@@ -5,7 +5,7 @@ ghost use lib.ListN.{length};
 ghost use Rattle.given.specs.Given.{Given};
 ghost use Rattle.rows.specs.Rows.{among, home, row};
 ghost use Rattle.rows.specs.Answers.{Matrix};
-ghost use Rattle.rows.specs.Inner.{ownsIn, rowIn, entryIn, Fit, Homed, Written};
+ghost use Rattle.rows.specs.Inner.{ownsIn, rowIn, entryIn, Fit, Homed, RowWritten};
 use groups::Group;
 use groups::Layout;
 
@@ -95,7 +95,7 @@ fn entry(g: Group, k: usize, n: usize, b: usize, i: usize) -> u8
 fn put_row(l: Layout, b: usize, rows: &mut [u8])
     requires { ⌜ Given l ⌝ }
     requires { ⌜ (b < 48) × (length (now rows) ≡ 1536) ⌝ }
-    ensures { λ _. ⌜ Written (b * 32) (row l b) 32 (now (rows .entry)) (now (rows .exit)) ⌝ }
+    ensures { λ _. ⌜ RowWritten (b * 32) (row l b) 32 (now (rows .entry)) (now (rows .exit)) ⌝ }
 {
     let x = home_of(l, b);
     let g = l.list[x];

@@ -13,16 +13,16 @@ decimal x =
     ((48 + x / 100) ∷ (48 + x / 10 % 10) ∷ (48 + x % 10) ∷ []))
 
 -- a word, a number, and a byte behind it
-abbrev pub numbered : List ℕ → ℕ → ℕ → List ℕ
-numbered word x last = word ++ decimal x ++ (last ∷ [])
+abbrev pub numberedText : List ℕ → ℕ → ℕ → List ℕ
+numberedText word x last = word ++ decimal x ++ (last ∷ [])
 
 -- "refused N"
 abbrev pub refusedText : ℕ → List ℕ
-refusedText number = numbered (114 ∷ 101 ∷ 102 ∷ 117 ∷ 115 ∷ 101 ∷ 100 ∷ 32 ∷ []) number 10
+refusedText number = numberedText (114 ∷ 101 ∷ 102 ∷ 117 ∷ 115 ∷ 101 ∷ 100 ∷ 32 ∷ []) number 10
 
 -- "layout k n"
 abbrev pub layoutText : ℕ → ℕ → List ℕ
-layoutText k n = numbered (108 ∷ 97 ∷ 121 ∷ 111 ∷ 117 ∷ 116 ∷ 32 ∷ []) k 32 ++ decimal n ++ (10 ∷ [])
+layoutText k n = numberedText (108 ∷ 97 ∷ 121 ∷ 111 ∷ 117 ∷ 116 ∷ 32 ∷ []) k 32 ++ decimal n ++ (10 ∷ [])
 
 -- " s*c": block s times its coefficient c
 abbrev pub itemText : ℕ → ℕ → List ℕ

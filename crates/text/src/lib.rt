@@ -2,7 +2,7 @@
 ghost use mathlib.Core.List.{[], _∷_};
 ghost use Prim.Native.Nat.{_<_, _≤_};
 ghost use lib.ListN.{length};
-ghost use Rattle.text.specs.Text.{decimal, numbered, refusedText, layoutText, itemText, itemsText};
+ghost use Rattle.text.specs.Text.{decimal, numberedText, refusedText, layoutText, itemText, itemsText};
 ghost use Rattle.text.specs.Put.{Room, Put};
 
 // A byte.
@@ -46,8 +46,8 @@ pub fn put_decimal(out: &mut [u8], at: usize, x: u8) -> usize
 
 // A word, a number, and a byte behind it.
 fn put_numbered(out: &mut [u8], at: usize, word: &[u8], x: u8, last: u8) -> usize
-    requires { ⌜ Room (numbered (now word) x last) at (now out) ⌝ }
-    ensures { λ r. ⌜ Put (numbered (now (word .entry)) x last) at (now (out .entry)) (now (out .exit)) r ⌝ }
+    requires { ⌜ Room (numberedText (now word) x last) at (now out) ⌝ }
+    ensures { λ r. ⌜ Put (numberedText (now (word .entry)) x last) at (now (out .entry)) (now (out .exit)) r ⌝ }
 {
     let a = put_word(out, at, word);
     let b = put_decimal(out, a, x);

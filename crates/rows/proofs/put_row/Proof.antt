@@ -2,15 +2,15 @@
 use Prim.Native.Nat.{_≤_, _-_}
 use mathlib.Core.Path.{_≡_}
 use native.Mathlib.Omega.{arith}
-use Rattle.rows.specs.Inner.{entryIn, Written}
+use Rattle.rows.specs.Inner.{entryIn, RowWritten}
 use Rattle.rows.proofs.Groups.{row-entry, few-blocks, homed, home-fits}
-use Rattle.rows.proofs.Stores.{written-none, written-more, written-as}
+use Rattle.rows.proofs.Stores.{row-written-none, row-written-more, row-written-as}
 use borrow.Author.Needs.{needs}
 use Rattle.rows.proofs.put_row.Statement.{statement}
 use Rattle.rows.proofs.put_row.Tie as tie
 
 abbrev Inv-loop : tie.InvT-loop
-Inv-loop b rows₀ x g k n at i₀ rows i = (i ≤ 32) × Written at (entryIn g k n b) i rows₀ rows
+Inv-loop b rows₀ x g k n at i₀ rows i = (i ≤ 32) × RowWritten at (entryIn g k n b) i rows₀ rows
 
 abbrev μ-loop : tie.MeasureT-loop
 μ-loop b rows₀ x g k n at i₀ rows i = 32 - i
@@ -31,7 +31,7 @@ mul-at : tie.Need-mul-at Inv-loop μ-loop
 mul-at c = omega arith
 
 loop-holds : tie.Need-loop-holds Inv-loop μ-loop
-loop-holds c = (omega arith, written-none _ _ _)
+loop-holds c = (omega arith, row-written-none _ _ _)
 
 entry-requires : tie.Need-entry-requires Inv-loop μ-loop
 entry-requires c κs = (homed _ (c .before .before .before .before .before .pre .0) _ _ (c .before .before .before .home-of .ensures), omega arith)
@@ -49,7 +49,7 @@ loop-less : tie.Need-loop-less Inv-loop μ-loop
 loop-less c = omega arith
 
 loop-again : tie.Need-loop-again Inv-loop μ-loop
-loop-again c = (omega arith, written-more _ _ _ _ _ _ (omega arith) (c .entry .ensures) (c .before .before .loop .inv .1))
+loop-again c = (omega arith, row-written-more _ _ _ _ _ _ (omega arith) (c .entry .ensures) (c .before .before .loop .inv .1))
 
 same-length : tie.Need-same-length Inv-loop μ-loop
 same-length c = c .before .loop .inv .1 .long
@@ -57,7 +57,7 @@ same-length c = c .before .loop .inv .1 .long
 returns : tie.Need-returns Inv-loop μ-loop
 returns c =
     let end : c .before .loop .i ≡ 32 = omega arith in
-    written-as _ _ _ _ _ _ (λ p. row-entry _ _ _ p (c .before .before .before .home-of .ensures)) (rw end at (c .before .loop .inv .1))
+    row-written-as _ _ _ _ _ _ (λ p. row-entry _ _ _ p (c .before .before .before .home-of .ensures)) (rw end at (c .before .loop .inv .1))
 
 pub put-row-spec : {M : Type 1} → statement M
 put-row-spec =
