@@ -35,9 +35,9 @@ comb-agree n c R Q x h = sum-cong n (λ s l. at s l (ℕ-discrete (c s) 0))
     at s l (no z) = ap (mul (c s)) (h s l z)
 
 -- coefficients that are zero from m on ask for the first m blocks
-pub sources : {coef xs : List ℕ} {len : ℕ} (m : ℕ) → length coef ≤ 48 → ((s : ℕ) → m ≤ s → s < length coef → getD coef s 0 ≡ 0)
+pub sources : {coef xs : List ℕ} {len : ℕ} (m : ℕ) → ((s : ℕ) → m ≤ s → s < length coef → getD coef s 0 ≡ 0)
     → m * len ≤ length xs → Sources xs coef len
-sources {coef} {xs} {len} m h z k = record { few = h; inside = λ s l n. at s l n (decLt s m) }
+sources {coef} {xs} {len} m z k = record { inside = λ s l n. at s l n (decLt s m) }
   where
     at : (s : ℕ) → s < length coef → (getD coef s 0 ≡ 0 → ⊥) → Dec (s < m) → s * len + len ≤ length xs
     at s l n (yes j) = omega (arith, under len s m j)

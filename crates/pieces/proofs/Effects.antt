@@ -19,7 +19,7 @@ use Rattle.calls.specs.Code.{Code, Proper, enc, PlanOf}
 use Rattle.calls.specs.Calls.{byteOf, stripe, Encoded, ByPlan, Repaired}
 use Rattle.calls.specs.Demands.{Alike}
 use Rattle.calls.proofs.Plans.{plan-none}
-use Rattle.pieces.specs.Pieces.{Others, Gathered, Made, Encodable, EncodedList}
+use Rattle.pieces.specs.Pieces.{Makeable, Gathered, Made, Encodable, EncodedList}
 use Rattle.pieces.proofs.Blocks.{under}
 use Rattle.pieces.proofs.Combining.{comb-agree, sources}
 
@@ -90,16 +90,11 @@ module _ {coef : List ℕ} {len b : ℕ} (c : Code) (lost : ℕ → Bool) (e : c
       at a x n l (yes h) = M .before (a * len + x) (omega (arith, under len a b h))
       at a x n l (no h) = M .after (a * len + x) (omega (arith, under len b a (omega arith)))
 
--- a plan asks for blocks of the stripe, and not for the lost block that it makes
-pub plan-others : {coef xs : List ℕ} {len b : ℕ} (c : Code) → Proper c → (lost : ℕ → Bool) → b < c .n → lost b ≡ true → Planned c lost b coef
-    → length coef ≤ 48 → len ≤ 1024 → length xs ≡ c .n * len → Others xs coef len b
-plan-others {coef} {xs} {len} {b} c p lost l o P h k w =
-    record {
-      sources = sources (c .n) h (P .past) (omega arith);
-      unread = λ m. plan-none c p lost b l (P .plan) b l o;
-      room = omega (arith, under len b (c .n) l);
-      short = k;
-    }
+-- a plan asks for blocks of the stripe
+pub plan-makeable : {coef xs : List ℕ} {len b : ℕ} (c : Code) (lost : ℕ → Bool) → b < c .n → Planned c lost b coef
+    → len ≤ 1024 → length xs ≡ c .n * len → Makeable xs coef len b
+plan-makeable {coef} {xs} {len} {b} c lost l P k w =
+    record { sources = sources (c .n) (P .past) (omega arith); room = omega (arith, under len b (c .n) l); short = k }
 
 -- ---- bytes that are never read
 

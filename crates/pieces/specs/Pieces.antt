@@ -13,7 +13,6 @@ use Rattle.calls.specs.Calls.{byteOf}
 
 -- what a combination asks: every block that it reads, its coefficient not being zero, stands in the stripe
 pub record Sources (xs coef : List ℕ) (len : ℕ) : Type 0 where
-  pub few : length coef ≤ 48
   pub inside : (s : ℕ) → s < length coef → (getD coef s 0 ≡ 0 → ⊥) → s * len + len ≤ length xs
 
 -- what `add_block` leaves: block s times its coefficient is added
@@ -31,10 +30,9 @@ pub record Gathered (coef xs : List ℕ) (len : ℕ) (r : List ℕ) : Type 0 whe
   pub long : length r ≡ len
   pub at : (x : ℕ) → x < len → getD r x 0 ≡ comb (length coef) (vec coef) (byteOf len xs) x
 
--- what `make` asks: block b stands in the stripe and is not itself read
-pub record Others (xs coef : List ℕ) (len b : ℕ) : Type 0 where
+-- what `make` asks: block b stands in the stripe too
+pub record Makeable (xs coef : List ℕ) (len b : ℕ) : Type 0 where
   pub sources : Sources xs coef len
-  pub unread : b < length coef → getD coef b 0 ≡ 0
   pub room : b * len + len ≤ length xs
   pub short : len ≤ 1024
 

@@ -4,7 +4,7 @@ pub mod encoding;
 ghost use mathlib.Core.Path.{_≡_};
 ghost use Prim.Native.Nat.{_+_, _<_, _≤_};
 ghost use lib.ListN.{length};
-ghost use Rattle.pieces.specs.Pieces.{Sources, Added, Combined, Others, Gathered, Made};
+ghost use Rattle.pieces.specs.Pieces.{Sources, Added, Combined, Makeable, Gathered, Made};
 
 pub fn copy(dst: &mut [u8], src: &[u8])
     requires { ⌜ length (now src) ≡ length (now dst) ⌝ }
@@ -57,9 +57,9 @@ pub fn gather(out: &mut [u8], stripe: &[u8], coef: &[u8], len: usize)
     combine(out, stripe, coef, len, 0);
 }
 
-// Writes block b from the other blocks. It is made beside the stripe and then copied in: two parts of one slice cannot be lent at once.
+// Writes block b from the blocks as they are. It is made beside the stripe and then copied in: two parts of one slice cannot be lent at once.
 pub fn make(stripe: &mut [u8], coef: &[u8], len: usize, b: usize)
-    requires { ⌜ Others (now stripe) (now coef) len b ⌝ }
+    requires { ⌜ Makeable (now stripe) (now coef) len b ⌝ }
     ensures { λ _. ⌜ Made (now (coef .entry)) len b (now (stripe .entry)) (now (stripe .exit)) ⌝ }
 {
     let mut block = [0u8; 1024];

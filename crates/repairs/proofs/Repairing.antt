@@ -23,10 +23,10 @@ use Rattle.plan.specs.Inner.{Coefficients}
 use Rattle.plan.proofs.Codes.{code-proper}
 use Rattle.plan.specs.Front.{FrontSays}
 use Rattle.shape.specs.Front.{refusal}
-use Rattle.pieces.specs.Pieces.{Others, Made}
+use Rattle.pieces.specs.Pieces.{Makeable, Made}
 use Rattle.shape.specs.Shapes.{Sized}
 use Rattle.plan.proofs.Fronts.{Sound, front-refused}
-use Rattle.pieces.proofs.Effects.{repaired, plan-others}
+use Rattle.pieces.proofs.Effects.{repaired, plan-makeable}
 use Rattle.shape.proofs.Plans.{planned, has-plan}
 use Rattle.repairs.specs.Repairs.{RepairsOne}
 
@@ -34,9 +34,8 @@ use Rattle.repairs.specs.Repairs.{RepairsOne}
 
 module _ (l : Layout) (given : Given l) (L lost b : ℕ) {a : Linear.Answer} (x : Coefficients l lost b a) (found : a .found ≡ true) (xs : List ℕ) where
   -- a lost block of a whole stripe can be made by its plan
-  pub mendable : b < blocks l → marked lost b ≡ true → L ≤ 1024 → length xs ≡ blocks l * L → Others xs (a .coef) L b
-  mendable below gone most whole =
-      plan-others (codeOf l L) (code-proper l given L) (marked lost) below gone (planned l given L lost b x found) (omega (arith, x .long)) most whole
+  pub mendable : b < blocks l → L ≤ 1024 → length xs ≡ blocks l * L → Makeable xs (a .coef) L b
+  mendable below most whole = plan-makeable (codeOf l L) (marked lost) below (planned l given L lost b x found) most whole
 
   -- and is then repaired, its mark being cleared
   pub mended : (ys : List ℕ) (m : ℕ) → m ≡ withoutMark lost b → Made (a .coef) L b xs ys
@@ -76,8 +75,8 @@ module _ (l : Layout) (st : Standing) (b : ℕ) (xs : List ℕ) where
             (record { first = inr (s .given, inr (s .size, inr (s .unmarked, inr (below, inr (lost, inl (x .none e, refl)))))) })
 
         module _ (found : a .found ≡ true) where
-          pub repair-others : Others xs (a .coef) (st .len) b
-          repair-others = mendable l (s .given) (st .len) (st .lost) b x found xs below lost (s .size .range .most) (s .size .whole)
+          pub repair-makeable : Makeable xs (a .coef) (st .len) b
+          repair-makeable = mendable l (s .given) (st .len) (st .lost) b x found xs below (s .size .range .most) (s .size .whole)
 
           pub repairs-done : (ys : List ℕ) (m : ℕ) → m ≡ withoutMark (st .lost) b → Made (a .coef) (st .len) b xs ys
               → RepairsOne l st b xs ys (record { standing = record { len = st .len; lost = m }; answer = Done })

@@ -24,7 +24,7 @@ use Rattle.plan.specs.Codes.{codeOf}
 use Rattle.plan.specs.Inner.{Coefficients}
 use Rattle.plan.proofs.Codes.{code-proper}
 use Rattle.plan.proofs.Verdicts.{not-yes, not-no}
-use Rattle.pieces.specs.Pieces.{Others, Made}
+use Rattle.pieces.specs.Pieces.{Makeable, Made}
 use Rattle.repairs.specs.declared.Rebuilding.the-variants.{Whole, Denied, NoPlan}
 use Rattle.plan.specs.Front.{FrontSays}
 use Rattle.repairs.specs.Turns.{Mendable, Lacks, LowestIs, Due, Turned, Ready, Restored}
@@ -79,8 +79,8 @@ module _ (l : Layout) (lost len b : ℕ) (xs : List ℕ) (d : Due l lost len b x
         at true e = e
         at false e = absurd (x .none e (d .plan gone))
 
-    pub turn-others : Others xs (a .coef) len b
-    turn-others = mendable l (d .given) len lost b x turn-found xs (d .number) gone (d .short) (d .whole)
+    pub turn-makeable : Makeable xs (a .coef) len b
+    turn-makeable = mendable l (d .given) len lost b x turn-found xs (d .number) (d .short) (d .whole)
 
     pub turn-done : (ys : List ℕ) (m : ℕ) → m ≡ withoutMark lost b → Made (a .coef) len b xs ys → Turned l lost len b xs ys m
     turn-done ys m q M =

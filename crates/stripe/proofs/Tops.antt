@@ -37,7 +37,7 @@ use Rattle.stripe.proofs.Answers.{layout-renders}
 
 -- a plan asks for blocks of the stripe
 pub plan-sources : (l : Layout) (L lost b : ℕ) {a : Linear.Answer} → Coefficients l lost b a → (xs : List ℕ) → length xs ≡ blocks l * L → Sources xs (a .coef) L
-plan-sources l L lost b x xs w = sources (blocks l) (omega (arith, x .long)) (λ i h k. x .past i h) (omega (arith, w))
+plan-sources l L lost b x xs w = sources (blocks l) (λ i h k. x .past i h) (omega (arith, w))
 
 -- the answer to a fetch, by numbers: `size` bytes of stripe, `room` bytes of spare
 module _ (l : Layout) (st : Standing) (b size room : ℕ) where

@@ -5,7 +5,7 @@ use borrow.Author.Needs.{needs}
 use Rattle.given.proofs.Facts.{given-proper}
 use Rattle.plan.proofs.Verdicts.{not-yes, not-no}
 use Rattle.plan.proofs.Fronts.{says-sound}
-use Rattle.repairs.proofs.Repairing.{repairs-front, repairs-9, repairs-10, repairs-14, repair-others, repairs-done}
+use Rattle.repairs.proofs.Repairing.{repairs-front, repairs-9, repairs-10, repairs-14, repair-makeable, repairs-done}
 use Rattle.repairs.proofs.repair_by.Statement.{statement}
 use Rattle.repairs.proofs.repair_by.Tie as tie
 
@@ -85,7 +85,7 @@ make-requires c κs =
     let tested = asked .before .before in
     let start = tested .before .before .before .before .before in
     let sound = says-sound (start .args .l) (start .args .st) (tested .before .before .before .front .result) (tested .before .before .before .front .ensures) (tested .before .before .if1 .left) in
-    repair-others (start .args .l) (start .args .st) (start .args .b) _ sound (tested .if2 .left)
+    repair-makeable (start .args .l) (start .args .st) (start .args .b) _ sound (tested .if2 .left)
     (sym (asked .before .holds .ensures) ∙ not-yes (asked .before .holds .result) (asked .if3 .left))
     (found .before .before .coefficients .ensures) (not-yes _ (found .if4 .left))
 
