@@ -1,7 +1,7 @@
 -- Believed: document 01, "The layout note": how blocks and rows are numbered, and the bounds on the running totals, with refusal 5 of "When the
 -- store says no". A layout is the groups entered so far; the reader holds one, with its place in the note and the fault that it found.
 use Prim.Native.Nat.{ℕ, _+_, _-_}
-use mathlib.Core.Bool.{Bool, true, false, cond}
+use mathlib.Core.Bool.{cond}
 use lib.ListN.{getD, set, replicate}
 use lib.Dec.{ltb, eqb}
 use Rattle.groups.specs.declared.Group.{Group}

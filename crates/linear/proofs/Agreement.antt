@@ -5,7 +5,7 @@ use mathlib.Core.Bool.{Bool}
 use Prim.Native.Nat.{ℕ, zero, suc, _<_}
 use native.Mathlib.Omega.{arith}
 use Rattle.linear.specs.Sets.{insert}
-use Rattle.linear.specs.Combinations.{comb, Combo}
+use Rattle.linear.specs.Combinations.{Combo}
 use Rattle.linear.specs.Greedy.{visited, Kept, begin, keeps, skips, IsPlan}
 use Rattle.linear.proofs.Combinations.{comb-rows, combo-cong}
 

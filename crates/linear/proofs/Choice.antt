@@ -8,7 +8,7 @@ use native.Mathlib.Omega.{arith}
 use native.Mathlib.Decide.{ℕ-discrete}
 use Rattle.field.proofs.Product.{mul-lt}
 use Rattle.linear.specs.Sets.{insert}
-use Rattle.linear.specs.Combinations.{comb, Combo, Independent}
+use Rattle.linear.specs.Combinations.{Combo, Independent}
 use Rattle.linear.specs.Greedy.{visited, Kept, begin, keeps, skips, IsPlan}
 use Rattle.linear.proofs.Sets.{in-and-out, insert-same, insert-other, insert-mono, insert-less}
 use Rattle.linear.proofs.Combinations.{combo-row, combo-more, combo-trans, combo-bytes}

@@ -4,13 +4,12 @@ use mathlib.Core.Path.{_≡_, refl, sym, ap, ap₂, _∙_}
 use mathlib.Core.Bool.{Bool, true, false}
 use mathlib.Core.Logic.{_↔_}
 use Prim.Native.Nat.{ℕ, _<_}
-use native.Mathlib.Omega.{arith}
 use native.Mathlib.Decide.{decLt, ℕ-discrete}
 use Rattle.field.specs.Field.{_⊕_, mul}
 use Rattle.field.proofs.Xor.{⊕-zero-r}
 use Rattle.field.proofs.Product.{mul-zero-l, mul-zero-r, mul-add-l, mul-one-l, mul-lt}
 use Rattle.field.proofs.Laws.{mul-assoc}
-use Rattle.linear.specs.Sums.{sumTo, put, unit}
+use Rattle.linear.specs.Sums.{put}
 use Rattle.linear.specs.Combinations.{comb, Combo}
 use Rattle.linear.proofs.Sets.{in-and-out}
 use Rattle.linear.proofs.Sums.{sum-cong, sum-zero, sum-⊕, sum-lt, sum-swap, sum-single, sum-scale, sum-scale-r, put-parts, put-same, put-other, put-self}

@@ -12,7 +12,7 @@ use Rattle.field.specs.Field.{mul, inv}
 use Rattle.field.proofs.Product.{mul-lt}
 use Rattle.linear.specs.Sets.{none, insert, count, tally}
 use Rattle.linear.specs.Sums.{put, unit}
-use Rattle.linear.specs.Combinations.{comb, Combo}
+use Rattle.linear.specs.Combinations.{Combo}
 use Rattle.linear.specs.Reduction.{red, Eliminated}
 use Rattle.linear.specs.Greedy.{visited, Kept, begin, keeps, skips, IsPlan}
 use Rattle.linear.proofs.Pigeon.{pigeon}

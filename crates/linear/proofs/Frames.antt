@@ -3,15 +3,13 @@
 use mathlib.Core.Path.{_≡_, refl, sym, ap, _∙_}
 use mathlib.Core.Bool.{Bool, true, false}
 use mathlib.Core.Logic.{_↔_}
-use Prim.Native.Nat.{ℕ, suc, _<_, _≤_}
+use Prim.Native.Nat.{ℕ, _<_, _≤_}
 use native.Mathlib.Omega.{arith}
 use native.Mathlib.Decide.{decLt}
 use Rattle.field.specs.Field.{mul}
 use Rattle.field.proofs.Product.{mul-zero-l, mul-zero-r}
-use Rattle.linear.specs.Sums.{sumTo}
 use Rattle.linear.specs.Combinations.{comb, Combo}
 use Rattle.linear.specs.Greedy.{visited, Kept, begin, keeps, skips, IsPlan}
-use Rattle.linear.proofs.Sets.{in-and-out}
 use Rattle.linear.proofs.Sums.{sum-zero, sum-less}
 use Rattle.linear.proofs.Combinations.{comb-cong}
 use Rattle.linear.proofs.Choice.{kept-in, visited-place}

@@ -8,9 +8,9 @@ use native.Mathlib.Omega.{arith}
 use native.Mathlib.Decide.{decLt, ℕ-discrete}
 use Rattle.field.specs.Field.{_⊕_, mul}
 use Rattle.field.proofs.Xor.{⊕-self}
-use Rattle.field.proofs.Product.{mul-zero-l, mul-zero-r, mul-one-l, mul-lt}
+use Rattle.field.proofs.Product.{mul-zero-r, mul-one-l, mul-lt}
 use Rattle.linear.specs.Sets.{insert, count}
-use Rattle.linear.specs.Sums.{sumTo, put}
+use Rattle.linear.specs.Sums.{put}
 use Rattle.linear.specs.Combinations.{comb, Combo, Independent}
 use Rattle.linear.specs.Greedy.{visited, Kept}
 use Rattle.linear.specs.Rank.{Basis, Rank}

@@ -11,7 +11,7 @@ use Rattle.field.specs.Field.{_⊕_, mul, inv}
 use Rattle.field.proofs.Xor.{⊕-assoc, ⊕-comm, ⊕-self, ⊕-zero-r, ⊕-zero-l, ⊕-lt, ⊕-equal, ⊕-cancel}
 use Rattle.field.proofs.Product.{mul-zero-l, mul-zero-r, mul-one-l, mul-lt}
 use Rattle.field.proofs.Laws.{mul-comm, mul-one-r, mul-inv-r, mul-redo, mul-vanish}
-use Rattle.linear.specs.Sums.{sumTo, put, unit}
+use Rattle.linear.specs.Sums.{sumTo, put}
 use Rattle.linear.specs.Combinations.{comb, Combo}
 use Rattle.linear.specs.Reduction.{red, Triangular, Told, Eliminated}
 use Rattle.linear.proofs.Pigeon.{pigeon}

@@ -1,7 +1,6 @@
 -- Proved: one survivor more is taken in. Where its row is reduced to zeros it is skipped, being a combination of those kept; otherwise it is kept.
 use mathlib.Core.List.{List}
 use mathlib.Core.Logic.{⊎-elim}
-use mathlib.Core.Bool.{Bool}
 use mathlib.Core.Path.{_≡_, refl, _∙_}
 use Prim.Native.Nat.{ℕ, suc, _+_, _*_, _<_}
 use native.Mathlib.Numerals.{add-one}

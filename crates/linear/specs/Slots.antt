@@ -9,7 +9,7 @@ use lib.ListN.{getD, length}
 use Rattle.field.specs.Field.{mul, inv}
 use Rattle.linear.specs.Sums.{put}
 use Rattle.linear.specs.Greedy.{Kept}
-use Rattle.linear.specs.Reduction.{red, Triangular, Eliminated}
+use Rattle.linear.specs.Reduction.{red, Eliminated}
 use Rattle.linear.specs.Solved.{vec, rowOf}
 
 -- a flat list of bytes as slots of 80

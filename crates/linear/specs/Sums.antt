@@ -1,6 +1,6 @@
 -- Believed: vectors, and sums in the field. A vector is a function from places, of which the first so many count; "the sum, over the data
 -- blocks .., of coefficient times block" of document 01 is such a sum.
-use mathlib.Core.Bool.{Bool, cond}
+use mathlib.Core.Bool.{cond}
 use Prim.Native.Nat.{ℕ, zero, suc}
 use lib.Dec.{eqb}
 use Rattle.field.specs.Field.{_⊕_}

@@ -1,7 +1,7 @@
 // Linear algebra over the field of 256 elements: whether a row is a combination of the survivors' rows, and by which coefficients.
 ghost use mathlib.Core.Path.{_≡_};
-ghost use Prim.Native.Nat.{ℕ, _+_, _*_, _<_, _≤_};
-ghost use lib.ListN.{length, getD};
+ghost use Prim.Native.Nat.{_+_, _*_, _<_};
+ghost use lib.ListN.{length};
 ghost use Rattle.linear.specs.Reduction.{Triangular};
 ghost use Rattle.linear.specs.Slots.{slot, Cleared, Filled, First, Shape, Reduced, Absorbed, Taken};
 ghost use Rattle.linear.specs.Solved.{vec, Survivors, Solved};

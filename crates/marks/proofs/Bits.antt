@@ -10,9 +10,9 @@ use native.Mathlib.Decide.{decLt, ℕ-discrete}
 use lib.Arith.{bin-ind}
 use lib.Pow.{pow-pos, pow-add}
 use lib.Dec.{eqb}
-use borrow.Author.Tests.{eq-eqb, ne-eqb, lt-ltb, ltb-true}
+use borrow.Author.Tests.{lt-ltb, ltb-true}
 use Rattle.field.specs.Field.{_⊕_}
-use Rattle.field.proofs.Xor.{⊕-shr, ⊕-odd, ⊕-bits, ⊕-zero-r, bit-cases, odd-lt}
+use Rattle.field.proofs.Xor.{⊕-shr, ⊕-odd, ⊕-zero-r, bit-cases, odd-lt}
 use Rattle.linear.specs.Sets.{insert, remove}
 use Rattle.linear.proofs.Sets.{in-and-out, insert-same, insert-other, remove-same, remove-other}
 use Rattle.marks.specs.Marks.{marked, withMark, withoutMark, noneFrom}

@@ -1,13 +1,12 @@
 -- Proved: what the functions on lists leave is what `calls` says of a stripe: an encoding, a repair, a block as its plan makes it. And bytes
 -- that stand where a coefficient is zero, as in a lost block, count for nothing.
 use mathlib.Core.List.{List}
-use mathlib.Core.Bool.{Bool, true, false}
-use mathlib.Core.Path.{_≡_, refl, sym, ap, _∙_}
+use mathlib.Core.Bool.{Bool, false}
+use mathlib.Core.Path.{_≡_, sym, ap, _∙_}
 use Prim.Native.Nat.{ℕ, _+_, _*_, _<_, _≤_}
 use native.Mathlib.Omega.{arith}
 use native.Mathlib.Decide.{decLt}
 use lib.ListN.{length, getD}
-use lib.Seq.{ext-getD}
 use Rattle.field.specs.Field.{mul}
 use Rattle.field.proofs.Product.{mul-zero-l}
 use Rattle.linear.specs.Sums.{sumTo}
@@ -15,10 +14,8 @@ use Rattle.linear.specs.Combinations.{comb}
 use Rattle.linear.specs.Blocks.{dot}
 use Rattle.linear.specs.Solved.{vec, rowOf}
 use Rattle.linear.proofs.Sums.{sum-cong, sum-less}
-use Rattle.calls.specs.Code.{Code, Proper, enc, PlanOf}
+use Rattle.calls.specs.Code.{Code, enc, PlanOf}
 use Rattle.calls.specs.Calls.{byteOf, stripe, Encoded, ByPlan, Repaired}
-use Rattle.calls.specs.Demands.{Alike}
-use Rattle.calls.proofs.Plans.{plan-none}
 use Rattle.pieces.specs.Pieces.{Makeable, Gathered, Made, Encodable, EncodedList}
 use Rattle.pieces.proofs.Blocks.{under}
 use Rattle.pieces.proofs.Combining.{comb-agree, sources}

@@ -20,7 +20,6 @@ use Rattle.plan.specs.declared.Answer.the-variants.{Done, Refused}
 use Rattle.plan.specs.Codes.{codeOf, front}
 use Rattle.plan.specs.Plans.{said}
 use Rattle.plan.specs.Inner.{Coefficients}
-use Rattle.plan.proofs.Codes.{code-proper}
 use Rattle.plan.specs.Front.{FrontSays}
 use Rattle.shape.specs.Front.{refusal}
 use Rattle.pieces.specs.Pieces.{Makeable, Made}

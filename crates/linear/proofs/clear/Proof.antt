@@ -1,5 +1,5 @@
 -- Proved: `clear` meets its contract. The invariant: the bytes below i are 0.
-use Prim.Native.Nat.{ℕ, _≤_, _-_}
+use Prim.Native.Nat.{_≤_, _-_}
 use mathlib.Core.Path.{refl}
 use native.Mathlib.Omega.{arith}
 use lib.ListN.{length}

@@ -1,6 +1,6 @@
 -- Proved: `eliminate` meets its contract. The invariant: the survivors at the places below j are taken in.
 use mathlib.Core.Path.{_≡_, _∙_}
-use Prim.Native.Nat.{ℕ, _≤_, _-_}
+use Prim.Native.Nat.{_≤_, _-_}
 use native.Mathlib.Omega.{arith}
 use lib.ListN.{length}
 use Rattle.linear.specs.Slots.{Taken}
