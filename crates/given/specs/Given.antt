@@ -1,4 +1,4 @@
--- Believed: document 01, refusal 6, "a layout that no accepted note gives".
+-- Believed: document 01, "When the store says no", 6: "a layout that no accepted note gives".
 use Prim.Native.Nat.{ℕ, _/_, _%_}
 use mathlib.Core.Path.{_≡_}
 use mathlib.Core.Bool.{Bool, true, false}

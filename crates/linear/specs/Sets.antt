@@ -1,4 +1,5 @@
--- Believed: sets of blocks. A set is a function from block numbers, "survivors" and "lost" among them: a set S has the block s if S s is true.
+-- Believed: document 01, "The plan": sets of blocks, as those lost and the survivors. A set is a function from block numbers: a set S has the block s if S s
+-- is true.
 use mathlib.Core.Bool.{Bool, true, false, not, _&&_, _||_}
 use Prim.Native.Nat.{ℕ, zero, suc, _+_}
 use lib.Dec.{eqb, ltb}

@@ -1,4 +1,4 @@
--- Believed: what the elimination answers, in the words of document 01, "The plan". A matrix comes as 48 rows of 32 bytes, one after another; one of
+-- Believed: document 01, "The plan": what the elimination answers. A matrix comes as 48 rows of 32 bytes, one after another; one of
 -- fewer blocks or columns stands in this frame with zeros round it (proofs/Frames). An order of survivors comes as a list of block numbers.
 use mathlib.Core.List.{List}
 use mathlib.Core.Bool.{true, false}

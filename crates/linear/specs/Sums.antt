@@ -1,5 +1,5 @@
--- Believed: vectors, and sums in the field. A vector is a function from places, of which the first so many count; "the sum, over the data
--- blocks .., of coefficient times block" of document 01 is such a sum.
+-- Believed: document 01, "The layout note": "the sum, over the data blocks .., of coefficient times block". Vectors, and sums in the field: a vector is a
+-- function from places, of which the first so many count.
 use mathlib.Core.Bool.{cond}
 use Prim.Native.Nat.{ℕ, zero, suc}
 use lib.Dec.{eqb}
