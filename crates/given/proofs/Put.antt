@@ -29,22 +29,22 @@ unfolding headBytes
 head-short g = by-eq (λ (s : List ℕ). length s ≤ 6) (g .d) 0 (λ e. omega arith) (λ e. omega arith)
 
 -- the headers of the first g groups stand at the front of the buffer
-pub record Put (front buf : List ℕ) (l : Layout) (at g : ℕ) : Type 0 where
+pub record HeadersPut (front buf : List ℕ) (l : Layout) (at g : ℕ) : Type 0 where
   pub is : buf ≡ sets front 0 (headers (take g (l .list)))
   pub place : at ≡ length (headers (take g (l .list)))
   pub few : at ≤ 6 * g
   pub within : g ≤ l .groups
 
-pub put-none : (buf : List ℕ) (l : Layout) → Put buf buf l 0 0
+pub headers-put-none : (buf : List ℕ) (l : Layout) → HeadersPut buf buf l 0 0
 unfolding headers
-put-none buf l = record { is = refl; place = refl; few = omega arith; within = omega arith }
+headers-put-none buf l = record { is = refl; place = refl; few = omega arith; within = omega arith }
 
-pub put-length : {front buf : List ℕ} {l : Layout} {at g : ℕ} → Put front buf l at g → length buf ≡ length front
-put-length {front = front} {l = l} {g = g} p = ap length (p .is) ∙ length-sets front 0 (headers (take g (l .list)))
+pub headers-put-length : {front buf : List ℕ} {l : Layout} {at g : ℕ} → HeadersPut front buf l at g → length buf ≡ length front
+headers-put-length {front = front} {l = l} {g = g} p = ap length (p .is) ∙ length-sets front 0 (headers (take g (l .list)))
 
-pub put-more : (front buf buf' : List ℕ) (l : Layout) (at at' g : ℕ) → Put front buf l at g → g < l .groups → l .groups ≤ length (l .list) →
-    buf' ≡ sets buf at (headBytes (getD (l .list) g noGroup)) → at' ≡ at + length (headBytes (getD (l .list) g noGroup)) → Put front buf' l at' (g + 1)
-put-more front buf buf' l at at' g p h n e f =
+pub headers-put-more : (front buf buf' : List ℕ) (l : Layout) (at at' g : ℕ) → HeadersPut front buf l at g → g < l .groups → l .groups ≤ length (l .list) →
+    buf' ≡ sets buf at (headBytes (getD (l .list) g noGroup)) → at' ≡ at + length (headBytes (getD (l .list) g noGroup)) → HeadersPut front buf' l at' (g + 1)
+headers-put-more front buf buf' l at at' g p h n e f =
     let x = getD (l .list) g noGroup in
     let k : g < length (l .list) = omega arith in
     let t : headers (take (g + 1) (l .list)) ≡ headers (take g (l .list)) ++ headBytes x =
@@ -56,10 +56,10 @@ put-more front buf buf' l at at' g p h n e f =
       within = omega arith;
     }
 
-pub put-all : (front buf : List ℕ) (l : Layout) (at g : ℕ) → Put front buf l at g → l .groups ≤ g → l .groups ≤ 16 →
+pub headers-put-all : (front buf : List ℕ) (l : Layout) (at g : ℕ) → HeadersPut front buf l at g → l .groups ≤ g → l .groups ≤ 16 →
     (buf ≡ sets front 0 (layoutNote l)) × (at ≡ length (layoutNote l)) × (at ≤ 96)
 unfolding layoutNote
-put-all front buf l at g p h n = let e : l .groups ≡ g = omega arith in rw e (p .is, p .place, omega arith)
+headers-put-all front buf l at g p h n = let e : l .groups ≡ g = omega arith in rw e (p .is, p .place, omega arith)
 
 -- what was put at the front is the front
 pub front-is : (b buf xs : List ℕ) (n : ℕ) → length xs ≤ length b → buf ≡ sets b 0 xs → n ≡ length xs → take n buf ≡ xs

@@ -10,19 +10,19 @@ use Rattle.field.specs.Field.{mul}
 use Rattle.field.specs.Scaled.{scaledAdd}
 use Rattle.field.proofs.Product.{mul-one-l}
 use Rattle.field.proofs.Scaled.{scaled-length}
-use Rattle.linear.specs.Reduction.{red, Told}
+use Rattle.linear.specs.Reduction.{red, Expressed}
 use Rattle.linear.specs.Solved.{vec, rowOf, Survivors, Solved}
-use Rattle.linear.specs.Slots.{slot, First, Reduced, Filled, Taken}
+use Rattle.linear.specs.Slots.{slot, FirstColumn, Reduced, Filled, Taken}
 use Rattle.linear.specs.declared.Answer.{Answer}
 use Rattle.linear.proofs.Sets.{in-and-out}
 use Rattle.linear.proofs.Sums.{put-none}
 use Rattle.linear.proofs.Combinations.{comb-cong}
-use Rattle.linear.proofs.Reduction.{red-byte, complete, answer, told-sum}
+use Rattle.linear.proofs.Reduction.{red-byte, complete, answer, expressed-sum}
 use Rattle.linear.proofs.Choice.{kept-combo, plan-unique, plan-combo}
 use Rattle.linear.proofs.Vectors.{getD-part, filled-byte, scaled-onto-zeros}
 
 module _ {rows order target basis pivot v r : List ℕ} {m count i : ℕ} (rb : (k : ℕ) → getD rows k 0 < 256) (tb : (k : ℕ) → getD target k 0 < 256)
-    (t : Taken rows order basis pivot count m) (f : Filled target 0 0 v) (x : Reduced v basis pivot count r) (o : First r i) where
+    (t : Taken rows order basis pivot count m) (f : Filled target 0 0 v) (x : Reduced v basis pivot count r) (o : FirstColumn r i) where
   pub unsolved : (c : List ℕ) → length c ≡ 48 → ((s : ℕ) → getD c s 0 ≡ 0) → i < 32
       → Solved rows order m target (record { found = false; coef = c })
   unsolved c long blank l =
@@ -47,7 +47,7 @@ module _ {rows order target basis pivot v r : List ℕ} {m count i : ℕ} (rb : 
           choice = t .choice;
           out = λ s k q. coef s k ∙ told .out s k q;
           byte = λ s k. rw (coef s k) (ub (32 + s));
-          sum = λ j k. told-sum 48 32 (rowOf rows) told zero j k ∙ comb-cong 48 (rowOf rows) j (λ s k. sym (coef s k));
+          sum = λ j k. expressed-sum 48 32 (rowOf rows) told zero j k ∙ comb-cong 48 (rowOf rows) j (λ s k. sym (coef s k));
         };
         none = λ e. in-and-out refl e;
         blank = λ e. in-and-out refl e;
@@ -59,7 +59,7 @@ module _ {rows order target basis pivot v r : List ℕ} {m count i : ℕ} (rb : 
       ub : (k : ℕ) → u k < 256
       ub = red-byte (slot basis) (vec pivot) (vec v) (filled-byte f tb) count
 
-      told : Told 48 32 (rowOf rows) (t .kept) (vec target) u
+      told : Expressed 48 32 (rowOf rows) (t .kept) (vec target) u
       told = answer 48 32 (rowOf rows) (t .state) (vec v) (f .row-part) (λ s k. f .unit-part s k ∙ put-none 0 s)
 
       zero : (j : ℕ) → j < 32 → u j ≡ 0

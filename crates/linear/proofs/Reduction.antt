@@ -13,7 +13,7 @@ use Rattle.field.proofs.Product.{mul-zero-l, mul-zero-r, mul-one-l, mul-lt}
 use Rattle.field.proofs.Laws.{mul-comm, mul-one-r, mul-inv-r, mul-redo, mul-vanish}
 use Rattle.linear.specs.Sums.{sumTo, put}
 use Rattle.linear.specs.Combinations.{comb, Combo}
-use Rattle.linear.specs.Reduction.{red, Triangular, Told, Eliminated}
+use Rattle.linear.specs.Reduction.{red, Triangular, Expressed, Eliminated}
 use Rattle.linear.proofs.Pigeon.{pigeon}
 use Rattle.linear.proofs.Sets.{in-and-out}
 use Rattle.linear.proofs.Sums.{sum-zero, sum-single, put-same, put-other}
@@ -121,9 +121,9 @@ module _ (w : ℕ) (B : ℕ → ℕ → ℕ) (P : ℕ → ℕ) where
 -- ---- what a vector's expression says
 
 module _ (n w : ℕ) (R : ℕ → ℕ → ℕ) where
-  pub told-add : {S : ℕ → Bool} {t v b : ℕ → ℕ} (a : ℕ) → Told n w R S t v → Told n w R S (λ _. 0) b
-      → Told n w R S t (λ i. v i ⊕ mul a (b i))
-  told-add {S} {t} {v} {b} a x y =
+  pub expressed-add : {S : ℕ → Bool} {t v b : ℕ → ℕ} (a : ℕ) → Expressed n w R S t v → Expressed n w R S (λ _. 0) b
+      → Expressed n w R S t (λ i. v i ⊕ mul a (b i))
+  expressed-add {S} {t} {v} {b} a x y =
       record {
         sum = λ i l.
             ap₂ _⊕_ (x .sum i l)
@@ -133,56 +133,56 @@ module _ (n w : ℕ) (R : ℕ → ℕ → ℕ) where
         out = λ s l o. ap₂ _⊕_ (x .out s l o) (ap (mul a) (y .out s l o) ∙ mul-zero-r a) ∙ ⊕-zero-r 0;
       }
 
-  pub told-zero : {S : ℕ → Bool} → Told n w R S (λ _. 0) (λ _. 0)
-  told-zero = record { sum = λ i l. sym (⊕-zero-l _ ∙ comb-zero n (λ _. 0) R i (λ s k. refl)); out = λ s l o. refl }
+  pub expressed-zero : {S : ℕ → Bool} → Expressed n w R S (λ _. 0) (λ _. 0)
+  expressed-zero = record { sum = λ i l. sym (⊕-zero-l _ ∙ comb-zero n (λ _. 0) R i (λ s k. refl)); out = λ s l o. refl }
 
-  pub told-cong : {S : ℕ → Bool} {t v u : ℕ → ℕ} → ((i : ℕ) → i < w + n → u i ≡ v i) → Told n w R S t v → Told n w R S t u
-  told-cong {S} {t} {v} {u} h x =
+  pub expressed-cong : {S : ℕ → Bool} {t v u : ℕ → ℕ} → ((i : ℕ) → i < w + n → u i ≡ v i) → Expressed n w R S t v → Expressed n w R S t u
+  expressed-cong {S} {t} {v} {u} h x =
       record {
         sum = λ i l. h i (omega arith) ∙ x .sum i l
             ∙ ap (λ (z : ℕ). t i ⊕ z) (comb-cong n R i (λ s k. sym (h (w + s) (omega arith))));
         out = λ s l o. h (w + s) (omega arith) ∙ x .out s l o;
       }
 
-  pub told-scale : {S : ℕ → Bool} {v : ℕ → ℕ} (a : ℕ) → Told n w R S (λ _. 0) v → Told n w R S (λ _. 0) (λ i. mul a (v i))
-  told-scale {S} {v} a x = told-cong (λ i l. sym (⊕-zero-l (mul a (v i)))) (told-add a told-zero x)
+  pub expressed-scale : {S : ℕ → Bool} {v : ℕ → ℕ} (a : ℕ) → Expressed n w R S (λ _. 0) v → Expressed n w R S (λ _. 0) (λ i. mul a (v i))
+  expressed-scale {S} {v} a x = expressed-cong (λ i l. sym (⊕-zero-l (mul a (v i)))) (expressed-add a expressed-zero x)
 
-  pub told-more : {S T : ℕ → Bool} {t v : ℕ → ℕ} → ((s : ℕ) → s < n → T s ≡ false → S s ≡ false) → Told n w R S t v → Told n w R T t v
-  told-more h x = record { sum = x .sum; out = λ s l o. x .out s l (h s l o) }
+  pub expressed-more : {S T : ℕ → Bool} {t v : ℕ → ℕ} → ((s : ℕ) → s < n → T s ≡ false → S s ≡ false) → Expressed n w R S t v → Expressed n w R T t v
+  expressed-more h x = record { sum = x .sum; out = λ s l o. x .out s l (h s l o) }
 
   -- a reduction keeps what the vector says
   pub red-told : {S : ℕ → Bool} {t v : ℕ → ℕ} (B : ℕ → ℕ → ℕ) (P : ℕ → ℕ) (m : ℕ)
-      → ((p : ℕ) → p < m → Told n w R S (λ _. 0) (B p)) → Told n w R S t v → Told n w R S t (red B P m v)
+      → ((p : ℕ) → p < m → Expressed n w R S (λ _. 0) (B p)) → Expressed n w R S t v → Expressed n w R S t (red B P m v)
   unfolding red
   red-told B P zero h x = x
   red-told {v = v} B P (suc m) h x =
-      told-add (red B P m v (P m)) (red-told B P m (λ p l. h p (omega arith)) x) (h m (omega arith))
+      expressed-add (red B P m v (P m)) (red-told B P m (λ p l. h p (omega arith)) x) (h m (omega arith))
 
   -- soundness: where the row part is zero, t is what the expression says
-  pub told-sum : {S : ℕ → Bool} {t v : ℕ → ℕ} → Told n w R S t v → ((i : ℕ) → i < w → v i ≡ 0) → (i : ℕ) → i < w
+  pub expressed-sum : {S : ℕ → Bool} {t v : ℕ → ℕ} → Expressed n w R S t v → ((i : ℕ) → i < w → v i ≡ 0) → (i : ℕ) → i < w
       → t i ≡ comb n (λ s. v (w + s)) R i
-  told-sum {S} {t} {v} x z i l = ⊕-equal (t i) (comb n (λ s. v (w + s)) R i) (sym (x .sum i l) ∙ z i l)
+  expressed-sum {S} {t} {v} x z i l = ⊕-equal (t i) (comb n (λ s. v (w + s)) R i) (sym (x .sum i l) ∙ z i l)
 
-  pub told-combo : {S : ℕ → Bool} {t v : ℕ → ℕ} → Told n w R S t v → ((i : ℕ) → i < w → v i ≡ 0) → Combo n w R S t
-  told-combo {S} {t} {v} x z =
+  pub expressed-combo : {S : ℕ → Bool} {t v : ℕ → ℕ} → Expressed n w R S t v → ((i : ℕ) → i < w → v i ≡ 0) → Combo n w R S t
+  expressed-combo {S} {t} {v} x z =
       record {
         coef = λ s. v (w + s);
         out = x .out;
-        sum = told-sum x z;
+        sum = expressed-sum x z;
       }
 
   -- the vector of block b: its row, and the unit of b
-  pub told-unit : {S : ℕ → Bool} {v : ℕ → ℕ} (b : ℕ) → b < n → S b ≡ true → ((i : ℕ) → R b i < 256)
-      → ((i : ℕ) → i < w → v i ≡ R b i) → ((s : ℕ) → s < n → v (w + s) ≡ put b 1 (λ _. 0) s) → Told n w R S (λ _. 0) v
-  told-unit {S} {v} b l t f g h =
+  pub expressed-unit : {S : ℕ → Bool} {v : ℕ → ℕ} (b : ℕ) → b < n → S b ≡ true → ((i : ℕ) → R b i < 256)
+      → ((i : ℕ) → i < w → v i ≡ R b i) → ((s : ℕ) → s < n → v (w + s) ≡ put b 1 (λ _. 0) s) → Expressed n w R S (λ _. 0) v
+  expressed-unit {S} {v} b l t f g h =
       record {
         sum = λ i k. g i k ∙ sym (⊕-zero-l _ ∙ comb-cong n R i h ∙ comb-one n b 1 R i l ∙ mul-one-l (R b i) (f i));
         out = λ s k o. h s k ∙ put-other b 1 (λ _. 0) s (λ e. in-and-out (ap S e ∙ t) o);
       }
 
   -- the vector of a target: its row, and no block
-  pub told-target : {S : ℕ → Bool} {t v : ℕ → ℕ} → ((i : ℕ) → i < w → v i ≡ t i) → ((s : ℕ) → s < n → v (w + s) ≡ 0) → Told n w R S t v
-  told-target {S} {t} {v} g h =
+  pub expressed-target : {S : ℕ → Bool} {t v : ℕ → ℕ} → ((i : ℕ) → i < w → v i ≡ t i) → ((s : ℕ) → s < n → v (w + s) ≡ 0) → Expressed n w R S t v
+  expressed-target {S} {t} {v} g h =
       record {
         sum = λ i k. g i k ∙ sym (ap (λ (z : ℕ). t i ⊕ z) (comb-zero n (λ s. v (w + s)) R i h) ∙ ⊕-zero-r (t i));
         out = λ s k o. h s k;
@@ -201,12 +201,12 @@ module _ (n w : ℕ) (R : ℕ → ℕ → ℕ) where
         y = combo-through m w B n R S (λ _. true) (K .via) (λ s l e p k o. in-and-out refl o) (K .spans) x
 
     -- soundness: where a target's row part is reduced to zero, the expression part has its coefficients
-    pub answer : {t : ℕ → ℕ} (v : ℕ → ℕ) → ((i : ℕ) → i < w → v i ≡ t i) → ((s : ℕ) → s < n → v (w + s) ≡ 0) → Told n w R S t (red B P m v)
-    answer v g h = red-told B P m (K .told) (told-target g h)
+    pub answer : {t : ℕ → ℕ} (v : ℕ → ℕ) → ((i : ℕ) → i < w → v i ≡ t i) → ((s : ℕ) → s < n → v (w + s) ≡ 0) → Expressed n w R S t (red B P m v)
+    answer v g h = red-told B P m (K .told) (expressed-target g h)
 
     pub sound : {t : ℕ → ℕ} (v : ℕ → ℕ) → ((i : ℕ) → i < w → v i ≡ t i) → ((s : ℕ) → s < n → v (w + s) ≡ 0)
         → ((i : ℕ) → i < w → red B P m v i ≡ 0) → Combo n w R S t
-    sound v g h z = told-combo (answer v g h) z
+    sound v g h z = expressed-combo (answer v g h) z
 
     -- row part zero just where the target is a combination of the kept rows
     pub decided : {t : ℕ → ℕ} (v : ℕ → ℕ) → ((i : ℕ) → v i < 256) → ((i : ℕ) → i < w → v i ≡ t i) → ((s : ℕ) → s < n → v (w + s) ≡ 0)
@@ -277,17 +277,17 @@ module _ (n w : ℕ) (R : ℕ → ℕ → ℕ) where
       grown : (s : ℕ) → s < n → T s ≡ false → S s ≡ false
       grown s k o = sym (same s (λ e. in-and-out (ap T e ∙ is) o)) ∙ o
 
-      told′ : (p : ℕ) → p < suc m → Told n w R T (λ _. 0) (C p)
+      told′ : (p : ℕ) → p < suc m → Expressed n w R T (λ _. 0) (C p)
       told′ p k = at (decLt p m)
         where
-          at : Dec (p < m) → Told n w R T (λ _. 0) (C p)
-          at (yes y) = told-cong (λ i j. old p i y j) (told-more grown (K .told p y))
+          at : Dec (p < m) → Expressed n w R T (λ _. 0) (C p)
+          at (yes y) = expressed-cong (λ i j. old p i y j) (expressed-more grown (K .told p y))
           at (no y) =
               let e : p ≡ m = omega arith in
               rw e
-              (told-cong new
-              (told-scale (inv (red B P m v i₀))
-              (red-told B P m (λ q j. told-more grown (K .told q j)) (told-unit b l is (rb b) vr ve))))
+              (expressed-cong new
+              (expressed-scale (inv (red B P m v i₀))
+              (red-told B P m (λ q j. expressed-more grown (K .told q j)) (expressed-unit b l is (rb b) vr ve))))
 
       -- a combination of the old slots and the new one
       slots : (x : ℕ) (c : ℕ → ℕ) (i : ℕ) → i < w → comb (suc m) (put m x c) C i ≡ comb m c B i ⊕ mul x (C m i)

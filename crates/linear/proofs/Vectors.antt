@@ -19,7 +19,7 @@ use Rattle.field.proofs.Upto.{Upto}
 use Rattle.linear.specs.Sums.{put}
 use Rattle.linear.specs.Reduction.{red, Triangular}
 use Rattle.linear.specs.Solved.{vec, rowOf}
-use Rattle.linear.specs.Slots.{slot, Cleared, Filled, First, Shape, Reduced, Absorbed}
+use Rattle.linear.specs.Slots.{slot, Cleared, Filled, FirstColumn, Shape, Reduced, Absorbed}
 use Rattle.linear.proofs.Sums.{put-same, put-other, put-none}
 use Rattle.linear.proofs.Reduction.{room}
 
@@ -184,11 +184,11 @@ reduced-more {v} {basis} {pivot} {r} {p} l m x =
 
 -- where something of the row is left, a slot is free
 pub slot-free : {v basis pivot r : List ℕ} {count i : ℕ} → Triangular 32 (slot basis) (vec pivot) count → ((k : ℕ) → getD v k 0 < 256)
-    → Reduced v basis pivot count r → First r i → i < 32 → count < 32
+    → Reduced v basis pivot count r → FirstColumn r i → i < 32 → count < 32
 slot-free {v} {basis} {pivot} {r} {count} {i} T vb x f l =
     room 32 (slot basis) (vec pivot) (vec v) vb count T i l (rw (x .at i (omega arith)) at (f .some l))
 
-module _ {v basis pivot r : List ℕ} {count i : ℕ} (x : Reduced v basis pivot count r) (f : First r i) (s : Shape basis pivot count) where
+module _ {v basis pivot r : List ℕ} {count i : ℕ} (x : Reduced v basis pivot count r) (f : FirstColumn r i) (s : Shape basis pivot count) where
   pub dropped : 32 ≤ i → Absorbed v basis pivot count basis pivot count
   dropped l =
       record {

@@ -19,14 +19,14 @@ pub record Triangular (w : ℕ) (B : ℕ → ℕ → ℕ) (P : ℕ → ℕ) (m :
   pub low : (p q : ℕ) → p < m → q < p → B p (P q) ≡ 0
 
 -- v's row is t and the combination that v's expression tells; the expression names blocks of S alone
-pub record Told (n w : ℕ) (R : ℕ → ℕ → ℕ) (S : ℕ → Bool) (t v : ℕ → ℕ) : Type 0 where
+pub record Expressed (n w : ℕ) (R : ℕ → ℕ → ℕ) (S : ℕ → Bool) (t v : ℕ → ℕ) : Type 0 where
   pub sum : (i : ℕ) → i < w → v i ≡ t i ⊕ comb n (λ s. v (w + s)) R i
   pub out : (s : ℕ) → s < n → S s ≡ false → v (w + s) ≡ 0
 
 -- the rows of S stand in the m slots of B: the slots are combinations of them, and they of the slots
 pub record Eliminated (n w : ℕ) (R : ℕ → ℕ → ℕ) (S : ℕ → Bool) (B : ℕ → ℕ → ℕ) (P : ℕ → ℕ) (m : ℕ) : Type 0 where
   pub triangular : Triangular w B P m
-  pub told : (p : ℕ) → p < m → Told n w R S (λ _. 0) (B p)
+  pub told : (p : ℕ) → p < m → Expressed n w R S (λ _. 0) (B p)
   pub via : ℕ → ℕ → ℕ
   pub spans : (s : ℕ) → s < n → S s ≡ true → (i : ℕ) → i < w → R s i ≡ comb m (via s) B i
   pub independent : Independent n w R S

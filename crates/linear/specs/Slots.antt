@@ -28,7 +28,7 @@ pub record Filled (row : List ℕ) (b e : ℕ) (r : List ℕ) : Type 0 where
   pub unit-part : (s : ℕ) → s < 48 → getD r (32 + s) 0 ≡ put b e (λ _. 0) s
 
 -- what `first` answers: the first column below 32 that is not zero, or 32
-pub record First (v : List ℕ) (r : ℕ) : Type 0 where
+pub record FirstColumn (v : List ℕ) (r : ℕ) : Type 0 where
   pub most : r ≤ 32
   pub none : (i : ℕ) → i < r → getD v i 0 ≡ 0
   pub some : r < 32 → 0 < getD v r 0

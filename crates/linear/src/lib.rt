@@ -3,7 +3,7 @@ ghost use mathlib.Core.Path.{_≡_};
 ghost use Prim.Native.Nat.{_+_, _*_, _<_};
 ghost use lib.ListN.{length};
 ghost use Rattle.linear.specs.Reduction.{Triangular};
-ghost use Rattle.linear.specs.Slots.{slot, Cleared, Filled, First, Shape, Reduced, Absorbed, Taken};
+ghost use Rattle.linear.specs.Slots.{slot, Cleared, Filled, FirstColumn, Shape, Reduced, Absorbed, Taken};
 ghost use Rattle.linear.specs.Solved.{vec, Survivors, Solved};
 
 // Where found, the coefficient of each block by its number; otherwise zeros.
@@ -37,7 +37,7 @@ fn fill(v: &mut [u8], row: &[u8], b: usize, e: u8)
 // The first column of v's row that is not zero, or 32.
 fn first(v: &[u8]) -> usize
     requires { ⌜ length (now v) ≡ 80 ⌝ }
-    ensures { λ r. ⌜ First (now (v .entry)) r ⌝ }
+    ensures { λ r. ⌜ FirstColumn (now (v .entry)) r ⌝ }
 {
     let mut i = 0;
     while i < 32 {

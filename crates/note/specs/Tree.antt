@@ -8,7 +8,7 @@ use Rattle.groups.specs.declared.Layout.{Layout}
 use Rattle.groups.specs.Groups.{noGroup}
 
 mutual
-  -- a group: "leaf group: one byte h, its own redundant blocks, and one byte d, its data blocks"; "branch group: one byte h, then .. records"
+  -- a group: "leaf group: one byte h, its own redundant blocks (0 or more), and one byte d, its data blocks"; "branch group: one byte h, then .. records"
   pub data Tree : Type 0 where
     leaf : ℕ → ℕ → Tree
     branch : ℕ → Members → Tree

@@ -4,18 +4,18 @@ use Prim.Native.Nat.{_-_}
 use native.Mathlib.Omega.{arith}
 use lib.ListN.{length-map}
 use borrow.Author.Needs.{needs}
-use Rattle.given.proofs.Put.{Put, put-none, put-more, put-all, put-length}
+use Rattle.given.proofs.Put.{HeadersPut, headers-put-none, headers-put-more, headers-put-all, headers-put-length}
 use Rattle.given.proofs.writer.put_note.Statement.{statement}
 use Rattle.given.proofs.writer.put_note.Tie as tie
 
 abbrev Inv-loop : tie.InvT-loop
-Inv-loop buf₀ l at₀ g₀ buf at g = Put buf₀ buf l at g
+Inv-loop buf₀ l at₀ g₀ buf at g = HeadersPut buf₀ buf l at g
 
 abbrev μ-loop : tie.MeasureT-loop
 μ-loop buf₀ l at₀ g₀ buf at g = l .groups - g
 
 loop-holds : tie.Need-loop-holds Inv-loop μ-loop
-loop-holds c = put-none _ _
+loop-holds c = headers-put-none _ _
 
 mul-x : tie.Need-mul-x Inv-loop μ-loop
 mul-x c = search needs
@@ -26,7 +26,7 @@ element-copy-out-x c = search needs
 put-head-requires : tie.Need-put-head-requires Inv-loop μ-loop
 put-head-requires c κs =
     let turn = c .before .before .before in
-    omega (arith, put-length (turn .loop .inv), turn .loop .inv, turn .before .before .pre)
+    omega (arith, headers-put-length (turn .loop .inv), turn .loop .inv, turn .before .before .pre)
 
 add-g : tie.Need-add-g Inv-loop μ-loop
 add-g c = search needs
@@ -40,13 +40,13 @@ loop-again c =
     let turn = c .before .before .before .before .before .before in
     let start = turn .before .before in
     let full = simp length-map at (start .good .1 .0 .1 .1 .1 .0 .1 .0 .1) in
-    put-more _ _ _ _ _ _ _ (turn .loop .inv) (omega arith) (omega (arith, full, start .pre)) (put .0) (put .1)
+    headers-put-more _ _ _ _ _ _ _ (turn .loop .inv) (omega arith) (omega (arith, full, start .pre)) (put .0) (put .1)
 
 same-length : tie.Need-same-length Inv-loop μ-loop
-same-length c = put-length (c .before .loop .inv)
+same-length c = headers-put-length (c .before .loop .inv)
 
 returns : tie.Need-returns Inv-loop μ-loop
-returns c = put-all _ _ _ _ _ (c .before .loop .inv) (omega arith) (c .before .before .before .pre .0)
+returns c = headers-put-all _ _ _ _ _ (c .before .loop .inv) (omega arith) (c .before .before .before .pre .0)
 
 pub put-note-spec : {M : Type 1} → statement M
 put-note-spec =
