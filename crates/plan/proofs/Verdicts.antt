@@ -45,14 +45,6 @@ pub told-no : {P : Type 0} (t : Bool) → Tells t P → not t ≡ true → P →
 told-no true p e = in-and-out e refl
 told-no false p e = p
 
-pub not-yes : (t : Bool) → not t ≡ false → t ≡ true
-not-yes true e = refl
-not-yes false e = in-and-out refl e
-
-pub not-no : (t : Bool) → not t ≡ true → t ≡ false
-not-no true e = in-and-out e refl
-not-no false e = refl
-
 -- ---- each answer
 
 module _ (l : Layout) (st : Standing) (b : ℕ) where

@@ -9,6 +9,7 @@ use native.Mathlib.Numerals.{add-one}
 use native.Mathlib.Omega.{arith}
 use native.Mathlib.Decide.{ℕ-discrete}
 use lib.ListN.{length}
+use borrow.Author.Tests.{not-true, not-false}
 use Rattle.linear.specs.declared.Answer as Linear
 use Rattle.linear.proofs.Sets.{in-and-out}
 use Rattle.groups.specs.declared.Layout.{Layout}
@@ -23,7 +24,6 @@ use Rattle.plan.specs.declared.Standing.{Standing}
 use Rattle.plan.specs.Codes.{codeOf}
 use Rattle.plan.specs.Inner.{Coefficients}
 use Rattle.plan.proofs.Codes.{code-proper}
-use Rattle.plan.proofs.Verdicts.{not-yes, not-no}
 use Rattle.pieces.specs.Pieces.{Makeable, Made}
 use Rattle.repairs.specs.declared.Rebuilding.the-variants.{Whole, Denied, NoPlan}
 use Rattle.plan.specs.Front.{FrontSays}
@@ -43,8 +43,8 @@ module _ (l : Layout) (lost b : ℕ) where
   pub lacks-judged : Given l → b < blocks l → marked lost b ≡ true → {a : Linear.Answer} → Coefficients l lost b a → Lacks l lost b (not (a .found))
   lacks-judged given below gone {a} x =
       record {
-        no = λ h _. has-plan l given 1 lost b x below (not-yes (a .found) h);
-        yes = λ h f. x .none (not-no (a .found) h) (f gone);
+        no = λ h _. has-plan l given 1 lost b x below (not-false (a .found) h);
+        yes = λ h f. x .none (not-true (a .found) h) (f gone);
       }
 
   pub lowest-here : b ≤ blocks l → ((a : ℕ) → a < b → Mendable l lost a) → {r : Bool} → Lacks l lost b r → r ≡ true → LowestIs l lost b

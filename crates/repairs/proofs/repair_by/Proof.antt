@@ -2,8 +2,8 @@
 use mathlib.Core.Path.{_∙_, sym}
 use native.Mathlib.Omega.{arith}
 use borrow.Author.Needs.{needs}
+use borrow.Author.Tests.{not-true, not-false}
 use Rattle.given.proofs.Facts.{given-proper}
-use Rattle.plan.proofs.Verdicts.{not-yes, not-no}
 use Rattle.plan.proofs.Fronts.{says-sound}
 use Rattle.repairs.proofs.Repairing.{repairs-front, repairs-9, repairs-10, repairs-14, repair-makeable, repairs-done}
 use Rattle.repairs.proofs.repair_by.Statement.{statement}
@@ -51,7 +51,7 @@ returns-3 c =
     let sound = says-sound (start .args .l) (start .args .st) (tested .before .before .before .front .result) (tested .before .before .before .front .ensures) (tested .before .before .if1 .left) in
     rw (c .refuse3 .ensures)
     (repairs-10 (start .args .l) (start .args .st) (start .args .b) _ sound (tested .if2 .left)
-    (sym (c .before .before .holds .ensures) ∙ not-no (c .before .before .holds .result) (c .before .if3 .taken)))
+    (sym (c .before .before .holds .ensures) ∙ not-true (c .before .before .holds .result) (c .before .if3 .taken)))
 
 coefficients-requires : tie.Need-coefficients-requires
 coefficients-requires c κs =
@@ -72,8 +72,8 @@ returns-4 c =
     let sound = says-sound (start .args .l) (start .args .st) (tested .before .before .before .front .result) (tested .before .before .before .front .ensures) (tested .before .before .if1 .left) in
     rw (c .refuse4 .ensures)
     (repairs-14 (start .args .l) (start .args .st) (start .args .b) _ sound (tested .if2 .left)
-    (sym (asked .before .holds .ensures) ∙ not-yes (asked .before .holds .result) (asked .if3 .left))
-    (c .before .before .before .coefficients .ensures) (not-no _ (c .before .if4 .taken)))
+    (sym (asked .before .holds .ensures) ∙ not-false (asked .before .holds .result) (asked .if3 .left))
+    (c .before .before .before .coefficients .ensures) (not-true _ (c .before .if4 .taken)))
 
 slice-aggregate-make : tie.Need-slice-aggregate-make
 slice-aggregate-make c = search needs
@@ -86,8 +86,8 @@ make-requires c κs =
     let start = tested .before .before .before .before .before in
     let sound = says-sound (start .args .l) (start .args .st) (tested .before .before .before .front .result) (tested .before .before .before .front .ensures) (tested .before .before .if1 .left) in
     repair-makeable (start .args .l) (start .args .st) (start .args .b) _ sound (tested .if2 .left)
-    (sym (asked .before .holds .ensures) ∙ not-yes (asked .before .holds .result) (asked .if3 .left))
-    (found .before .before .coefficients .ensures) (not-yes _ (found .if4 .left))
+    (sym (asked .before .holds .ensures) ∙ not-false (asked .before .holds .result) (asked .if3 .left))
+    (found .before .before .coefficients .ensures) (not-false _ (found .if4 .left))
 
 without-requires : tie.Need-without-requires
 without-requires c κs =
@@ -106,8 +106,8 @@ returns-5 c =
     let start = tested .before .before .before .before .before in
     let sound = says-sound (start .args .l) (start .args .st) (tested .before .before .before .front .result) (tested .before .before .before .front .ensures) (tested .before .before .if1 .left) in
     repairs-done (start .args .l) (start .args .st) (start .args .b) _ sound (tested .if2 .left)
-    (sym (asked .before .holds .ensures) ∙ not-yes (asked .before .holds .result) (asked .if3 .left))
-    (found .before .before .coefficients .ensures) (not-yes _ (found .if4 .left)) _ _ (c .without .ensures) (c .before .before .before .make .ensures)
+    (sym (asked .before .holds .ensures) ∙ not-false (asked .before .holds .result) (asked .if3 .left))
+    (found .before .before .coefficients .ensures) (not-false _ (found .if4 .left)) _ _ (c .without .ensures) (c .before .before .before .make .ensures)
 
 pub repair-by-spec : {M : Type 1} → statement M
 repair-by-spec =

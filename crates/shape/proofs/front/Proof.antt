@@ -2,9 +2,9 @@
 use mathlib.Core.Path.{_∙_, sym}
 use native.Mathlib.Omega.{arith}
 use borrow.Author.Needs.{needs}
+use borrow.Author.Tests.{not-true, not-false}
 use Rattle.given.specs.Given.{Given}
 use Rattle.given.proofs.Facts.{given-proper}
-use Rattle.plan.proofs.Verdicts.{not-yes, not-no}
 use Rattle.plan.proofs.Fronts.{front-8, front-0}
 use Rattle.shape.proofs.Fronts.{shape-given, shape-sized, front-shape}
 use Rattle.shape.proofs.front.Statement.{statement}
@@ -30,13 +30,13 @@ returns-2 : tie.Need-returns-2
 returns-2 c =
     let passed = c .before .before .before in
     front-8 (given passed) (shape-sized (passed .before .shape .ensures) (passed .if1 .left))
-    (sym (c .before .none-from .ensures) ∙ not-no (c .before .none-from .result) (c .if2 .taken))
+    (sym (c .before .none-from .ensures) ∙ not-true (c .before .none-from .result) (c .if2 .taken))
 
 returns-3 : tie.Need-returns-3
 returns-3 c =
     let passed = c .before .before .before in
     front-0 (given passed) (shape-sized (passed .before .shape .ensures) (passed .if1 .left))
-    (sym (c .before .none-from .ensures) ∙ not-yes (c .before .none-from .result) (c .if2 .left))
+    (sym (c .before .none-from .ensures) ∙ not-false (c .before .none-from .result) (c .if2 .left))
 
 pub front-spec : {M : Type 1} → statement M
 front-spec =

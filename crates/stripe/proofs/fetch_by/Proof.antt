@@ -2,8 +2,8 @@
 use mathlib.Core.Path.{_∙_, sym}
 use native.Mathlib.Omega.{arith}
 use borrow.Author.Needs.{needs}
+use borrow.Author.Tests.{not-true, not-false}
 use Rattle.given.proofs.Facts.{given-proper}
-use Rattle.plan.proofs.Verdicts.{not-yes, not-no}
 use Rattle.plan.proofs.Fronts.{says-sound}
 use Rattle.stripe.proofs.Tops.{plan-sources, fetch-front, fetch-9, fetch-13, fetch-present, fetch-14, fetch-planned, fetches-refused, fetches-present, fetches-done}
 use Rattle.stripe.proofs.fetch_by.Statement.{statement}
@@ -49,7 +49,7 @@ returns-4 c =
     let tested = c .before .before .before in
     let start = tested .before .before .before .before .before .before in
     let sound = says-sound (start .args .l) (start .args .st) (tested .before .before .before .front .result) (tested .before .before .before .front .ensures) (tested .before .before .if1 .left) in
-    let here = sym (c .before .holds .ensures) ∙ not-no (c .before .holds .result) (c .if4 .taken) in
+    let here = sym (c .before .holds .ensures) ∙ not-true (c .before .holds .result) (c .if4 .taken) in
     fetches-present (start .args .l) (start .args .st) (start .args .b) _ _ (fetch-present (start .args .l) (start .args .st) (start .args .b) _ _ sound (tested .if2 .left) (c .before .before .if3 .left) here) here
 
 coefficients-requires : tie.Need-coefficients-requires
@@ -67,8 +67,8 @@ returns-5 c =
     let sound = says-sound (start .args .l) (start .args .st) (tested .before .before .before .front .result) (tested .before .before .before .front .ensures) (tested .before .before .if1 .left) in
     fetches-refused (start .args .l) (start .args .st) (start .args .b) _ _ 14
     (fetch-14 (start .args .l) (start .args .st) (start .args .b) _ _ sound (tested .if2 .left) (asked .before .before .if3 .left)
-    (sym (asked .before .holds .ensures) ∙ not-yes (asked .before .holds .result) (asked .if4 .left))
-    (c .before .before .coefficients .ensures) (not-no _ (c .if5 .taken)))
+    (sym (asked .before .holds .ensures) ∙ not-false (asked .before .holds .result) (asked .if4 .left))
+    (c .before .before .coefficients .ensures) (not-true _ (c .if5 .taken)))
 
 slice-aggregate-gather : tie.Need-slice-aggregate-gather
 slice-aggregate-gather c = search needs
@@ -95,9 +95,9 @@ returns-6 c =
     let start = tested .before .before .before .before .before .before in
     let sound = says-sound (start .args .l) (start .args .st) (tested .before .before .before .front .result) (tested .before .before .before .front .ensures) (tested .before .before .if1 .left) in
     let fits = asked .before .before .if3 .left in
-    let gone = sym (asked .before .holds .ensures) ∙ not-yes (asked .before .holds .result) (asked .if4 .left) in
+    let gone = sym (asked .before .holds .ensures) ∙ not-false (asked .before .holds .result) (asked .if4 .left) in
     let plan = found .before .before .coefficients .ensures in
-    let is = not-yes _ (found .if5 .left) in
+    let is = not-false _ (found .if5 .left) in
     fetches-done (start .args .l) (start .args .st) (start .args .b) _ _ (fetch-planned (start .args .l) (start .args .st) (start .args .b) _ _ sound (tested .if2 .left) fits gone plan is) (sound .given) fits gone plan is _ (c .before .before .gather .ensures)
 
 pub fetch-by-spec : {M : Type 1} → statement M

@@ -2,8 +2,8 @@
 use mathlib.Core.Path.{sym, _∙_}
 use native.Mathlib.Omega.{arith}
 use borrow.Author.Needs.{needs}
+use borrow.Author.Tests.{not-true, not-false}
 use Rattle.given.proofs.Facts.{given-proper}
-use Rattle.plan.proofs.Verdicts.{not-yes, not-no}
 use Rattle.plan.proofs.Fronts.{says-sound}
 use Rattle.stripe.proofs.Tops.{fetch-front, fetch-9, fetch-13, fetch-present, fetch-14, fetch-planned}
 use Rattle.stripe.proofs.Viewing.{inside, placed-refused, placed-present, placed-lost}
@@ -57,7 +57,7 @@ returns-4 c =
     let tested = c .before .before .before in
     let start = tested .before .before .before .before in
     let sound = says-sound (start .args .l) (start .args .st) (tested .before .before .before .front .result) (tested .before .before .before .front .ensures) (tested .before .before .if1 .left) in
-    let here = sym (c .before .holds .ensures) ∙ not-no (c .before .holds .result) (c .if4 .taken) in
+    let here = sym (c .before .holds .ensures) ∙ not-true (c .before .holds .result) (c .if4 .taken) in
     placed-present (start .args .l) (start .args .st) (start .args .size) (start .args .room) (start .args .b) (fetch-present (start .args .l) (start .args .st) (start .args .b) (start .args .size) (start .args .room) sound (tested .if2 .left) (sym (c .before .before .if3 .left)) here) here
 
 coefficients-requires : tie.Need-coefficients-requires
@@ -73,7 +73,7 @@ returns-5 c =
     let tested = asked .before .before .before in
     let start = tested .before .before .before .before in
     let sound = says-sound (start .args .l) (start .args .st) (tested .before .before .before .front .result) (tested .before .before .before .front .ensures) (tested .before .before .if1 .left) in
-    let gone = sym (asked .before .holds .ensures) ∙ not-yes (asked .before .holds .result) (asked .if4 .left) in
+    let gone = sym (asked .before .holds .ensures) ∙ not-false (asked .before .holds .result) (asked .if4 .left) in
     placed-lost (start .args .l) (start .args .st) (start .args .size) (start .args .room) (start .args .b) (fetch-planned (start .args .l) (start .args .st) (start .args .b) (start .args .size) (start .args .room) sound (tested .if2 .left) (sym (asked .before .before .if3 .left)) gone (c .before .coefficients .ensures) (c .if5 .taken)) gone
 
 returns-6 : tie.Need-returns-6
@@ -84,7 +84,7 @@ returns-6 c =
     let sound = says-sound (start .args .l) (start .args .st) (tested .before .before .before .front .result) (tested .before .before .before .front .ensures) (tested .before .before .if1 .left) in
     placed-refused (start .args .l) (start .args .st) (start .args .size) (start .args .room) (start .args .b) 14
     (fetch-14 (start .args .l) (start .args .st) (start .args .b) (start .args .size) (start .args .room) sound (tested .if2 .left) (sym (asked .before .before .if3 .left))
-    (sym (asked .before .holds .ensures) ∙ not-yes (asked .before .holds .result) (asked .if4 .left)) (c .before .coefficients .ensures) (c .if5 .left))
+    (sym (asked .before .holds .ensures) ∙ not-false (asked .before .holds .result) (asked .if4 .left)) (c .before .coefficients .ensures) (c .if5 .left))
 
 pub part-by-spec : {M : Type 1} → statement M
 part-by-spec =
