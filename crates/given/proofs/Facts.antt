@@ -49,16 +49,39 @@ mutual
       let b = members-sums ms row (first + datas t) (redundant + redundants t) in
       (sum-append (λ g. g .d) gs hs ∙ ap₂ _+_ (a .0) (b .0), sum-append (λ g. g .h) gs hs ∙ ap₂ _+_ (a .1) (b .1))
 
-mutual
-  unfolding size sizeIn over
+size-some : (t : Tree) → 1 ≤ size t
+unfolding size over
+size-some (leaf h d) = omega arith
+size-some (branch h ms) = omega arith
 
-  size-some : (t : Tree) → 1 ≤ size t
-  size-some (leaf h d) = omega arith
-  size-some (branch h ms) = omega arith
+members-some : (ms : Members) → 1 ≤ sizeIn ms
+unfolding size sizeIn over
+members-some (pair t u) = omega (arith, size-some t)
+members-some (more t ms) = omega (arith, size-some t)
 
-  members-two : (ms : Members) → 2 ≤ sizeIn ms
-  members-two (pair t u) = omega (arith, size-some t, size-some u)
-  members-two (more t ms) = omega (arith, size-some t, members-two ms)
+-- a tree's first group holds all of them
+tree-top : (t : Tree) (row first redundant : ℕ) → sizeAt (groupsOf t row first redundant) 0 ≡ size t
+unfolding groupsOf size sizeIn over
+tree-top (leaf h d) row first redundant = refl
+tree-top (branch h ms) row first redundant = refl
+
+-- the first member of a branch does not hold all that the branch does
+first-short : (ms : Members) (row first redundant : ℕ) → sizeAt (groupsIn ms row first redundant) 0 < length (groupsIn ms row first redundant)
+unfolding groupsOf
+first-short (pair t u) row first redundant =
+    let gs = groupsOf t row first redundant in
+    let hs = groupsOf u row (first + datas t) (redundant + redundants t) in
+    let a = groups-length t row first redundant in
+    let b = groups-length u row (first + datas t) (redundant + redundants t) in
+    let s : sizeAt (gs ++ hs) 0 ≡ sizeAt gs 0 = ap (λ (x : Group). x .size) (List·getD-append gs hs noGroup 0 (omega (arith, size-some t))) in
+    omega (arith, tree-top t row first redundant, length-append gs hs, size-some u)
+first-short (more t ms) row first redundant =
+    let gs = groupsOf t row first redundant in
+    let hs = groupsIn ms row (first + datas t) (redundant + redundants t) in
+    let a = groups-length t row first redundant in
+    let b = groups-in-length ms row (first + datas t) (redundant + redundants t) in
+    let s : sizeAt (gs ++ hs) 0 ≡ sizeAt gs 0 = ap (λ (x : Group). x .size) (List·getD-append gs hs noGroup 0 (omega (arith, size-some t))) in
+    omega (arith, tree-top t row first redundant, length-append gs hs, members-some ms)
 
 -- ---- a tree's groups are in their places
 
@@ -92,7 +115,7 @@ mutual
   tree-places (branch h ms) row first redundant most p m =
       let n = groups-in-length ms (row + h) first (redundant + h) in
       places-branch row first redundant most _ (groupsIn ms (row + h) first (redundant + h)) refl refl refl refl (omega arith)
-      (omega (arith, members-two ms)) (sym (members-sums ms (row + h) first (redundant + h) .0)) (omega arith)
+      (first-short ms (row + h) first (redundant + h)) (sym (members-sums ms (row + h) first (redundant + h) .0)) (omega arith)
       (members-places ms (row + h) first (redundant + h) most p (omega arith))
 
   members-places : (ms : Members) (row first redundant most : ℕ) → 1 ≤ fewestIn ms → row + rowsIn ms ≤ most →
@@ -134,11 +157,6 @@ zeros-blank : (n i : ℕ) → getD (replicate n noGroup) i noGroup ≡ noGroup
 zeros-blank zero i = refl
 zeros-blank (suc n) zero = refl
 zeros-blank (suc n) (suc i) = zeros-blank n i
-
-tree-top : (t : Tree) → sizeAt (groupsOf t 0 0 0) 0 ≡ size t
-unfolding groupsOf size sizeIn over
-tree-top (leaf h d) = refl
-tree-top (branch h ms) = refl
 
 module _ (t : Tree) (b : Within t) where
   gs : List Group
@@ -182,7 +200,10 @@ module _ (t : Tree) (b : Within t) where
             let m : groupAt (layoutOf t) y .size ≡ sizeAt gs y = ap (λ (k : Group). k .size) (at-front y (omega (arith, q .inner, groups-sized))) in
             omega arith;
         leaf = q .leaf;
-        branch = q .branch;
+        branch = λ z.
+            let k = q .branch z in
+            let m : groupAt (layoutOf t) (suc x) .size ≡ sizeAt gs (suc x) = ap (λ (k : Group). k .size) (at-front (suc x) (omega (arith, q .inner, groups-sized))) in
+            omega arith;
       })
 
   proper : Proper (layoutOf t)
@@ -199,7 +220,7 @@ module _ (t : Tree) (b : Within t) where
         n = b .n;
         datas = sym (e .0) ∙ ap (sumOf (λ g. g .d) gs) groups-sized ∙ sum-in (λ g. g .d) (size t) (omega arith);
         redundants = sym (e .1) ∙ ap (sumOf (λ g. g .h) gs) groups-sized ∙ sum-in (λ g. g .h) (size t) (omega arith);
-        top = ap (λ (g : Group). g .size) (at-front 0 (omega (arith, size-some t))) ∙ tree-top t;
+        top = ap (λ (g : Group). g .size) (at-front 0 (omega (arith, size-some t))) ∙ tree-top t 0 0 0;
         each = placed;
         unused = λ x h.
             let i : length gs + (x - length gs) ≡ x = omega (arith, groups-sized) in

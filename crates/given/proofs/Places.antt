@@ -60,17 +60,17 @@ pub record Place (row start past most : ℕ) (gs : List Group) (x : ℕ) (g : Gr
   pub itself : 0 < g .size
   pub nested : (y : ℕ) → x ≤ y → y < x + g .size → y + sizeAt gs y ≤ x + g .size
   pub leaf : 0 < g .d → (g .size ≡ 1) × (g .count ≡ g .d)
-  pub branch : g .d ≡ 0 → 3 ≤ g .size
+  pub branch : g .d ≡ 0 → suc x + sizeAt gs (suc x) < x + g .size
 
 abbrev pub Places : ℕ → ℕ → ℕ → ℕ → List Group → Type 0
 Places row start past most gs = (x : ℕ) → x < length gs → Place row start past most gs x (getD gs x noGroup)
 
 -- a branch and the groups inside it
 module _ (row start past most : ℕ) (g : Group) (gs : List Group) where
-  pub places-branch : g .d ≡ 0 → g .row ≡ row → g .first ≡ start → g .redundant ≡ past → g .size ≡ 1 + length gs → 2 ≤ length gs →
+  pub places-branch : g .d ≡ 0 → g .row ≡ row → g .first ≡ start → g .redundant ≡ past → g .size ≡ 1 + length gs → sizeAt gs 0 < length gs →
       g .count ≡ sumOf (λ g. g .d) gs (length gs) → row + g .h ≤ most → Places (row + g .h) start (past + g .h) most gs → Places row start past most (g ∷ gs)
   unfolding sumOf rowsRound
-  places-branch d r f p s two c m e zero h =
+  places-branch d r f p s short c m e zero h =
       let total : sumOf (λ g. g .d) (g ∷ gs) (0 + g .size) ≡ g .d + sumOf (λ g. g .d) gs (length gs) =
       ap (sumOf (λ g. g .d) (g ∷ gs)) (let q : 0 + g .size ≡ suc (length gs) = omega arith in q) in
       record {
@@ -89,7 +89,7 @@ module _ (row start past most : ℕ) (g : Group) (gs : List Group) where
       inside : (y : ℕ) → 0 ≤ y → y < 0 + g .size → y + sizeAt (g ∷ gs) y ≤ 0 + g .size
       inside zero a b = omega arith
       inside (suc y) a b = let q = e y (omega arith) .inner in omega arith
-  places-branch d r f p s two c m e (suc x) h =
+  places-branch d r f p s short c m e (suc x) h =
       let q = e x (omega arith) in
       let round : 0 + g .h ≡ 0 + ifLt (suc x) (g .size) (g .h) 0 = ap (λ (n : ℕ). 0 + n) (lt-yes _ (omega arith) refl) in
       let shift = suc-add x (sizeAt gs x) in
@@ -103,7 +103,7 @@ module _ (row start past most : ℕ) (g : Group) (gs : List Group) where
         itself = q .itself;
         nested = inside;
         leaf = q .leaf;
-        branch = q .branch;
+        branch = λ z. let k = q .branch z in omega arith;
       }
     where
       inside : (y : ℕ) → suc x ≤ y → y < suc x + sizeAt gs x → y + sizeAt (g ∷ gs) y ≤ suc x + sizeAt gs x
@@ -135,7 +135,12 @@ module _ (row start past most : ℕ) (gs hs : List Group) (d r : ℕ) (D : sumOf
             let m : sizeAt (gs ++ hs) y ≡ sizeAt gs y = ap (λ (x : Group). x .size) (List·getD-append gs hs noGroup y (omega arith)) in
             omega arith;
         leaf = q .leaf;
-        branch = q .branch;
+        branch = λ z.
+            let k = q .branch z in
+            let i = q .inner in
+            let m : sizeAt (gs ++ hs) (suc x) ≡ sizeAt gs (suc x) =
+            ap (λ (x : Group). x .size) (List·getD-append gs hs noGroup (suc x) (omega arith)) in
+            omega arith;
       })
 
   places-behind : (y : ℕ) → y < length hs → Place row start past most (gs ++ hs) (length gs + y) (getD (gs ++ hs) (length gs + y) noGroup)
@@ -164,7 +169,12 @@ module _ (row start past most : ℕ) (gs hs : List Group) (d r : ℕ) (D : sumOf
             ap (sizeAt (gs ++ hs)) i ∙ ap (λ (x : Group). x .size) (getD-append-add gs hs (z - length gs) noGroup) in
             omega arith;
         leaf = q .leaf;
-        branch = q .branch;
+        branch = λ z.
+            let k = q .branch z in
+            let i : suc (length gs + y) ≡ length gs + suc y = omega arith in
+            let m : sizeAt (gs ++ hs) (suc (length gs + y)) ≡ sizeAt hs (suc y) =
+            ap (sizeAt (gs ++ hs)) i ∙ ap (λ (x : Group). x .size) (getD-append-add gs hs (suc y) noGroup) in
+            omega arith;
       })
 
   pub places-append : Places row start past most (gs ++ hs)

@@ -55,8 +55,8 @@ pub record Placed (l : Layout) (x : ℕ) (g : Group) : Type 0 where
   pub nested : (y : ℕ) → Holds l x y → y + groupAt l y .size ≤ x + g .size
   -- a leaf holds itself alone
   pub leaf : 0 < g .d → (g .size ≡ 1) × (g .count ≡ g .d)
-  -- a branch holds two groups or more besides itself
-  pub branch : g .d ≡ 0 → 3 ≤ g .size
+  -- a branch has two members or more: the first, which stands right behind it, ends before it does
+  pub branch : g .d ≡ 0 → suc x + groupAt l (suc x) .size < x + g .size
 
 -- "Bounds: k 1 to 32, n at most 48, groups at most 16", and every group in its place
 pub record Proper (l : Layout) : Type 0 where

@@ -56,7 +56,7 @@ module _ (l : Layout) (lost b : ℕ) where
       }
 
   pub lowest-none : b ≡ blocks l → ((a : ℕ) → a < b → Mendable l lost a) → LowestIs l lost b
-  lowest-none h f = record { most = omega arith; below = f; here = λ k. omega arith }
+  lowest-none h f = record { most = omega arith; below = f; here = λ k. absurd (omega arith) }
 
   pub one-more : ((a : ℕ) → a < b → Mendable l lost a) → {r : Bool} → Lacks l lost b r → r ≡ false → (a : ℕ) → a < b + 1 → Mendable l lost a
   one-more f x e a h = at (ℕ-discrete a b)
