@@ -24,7 +24,8 @@ use Rattle.plan.specs.declared.Answer.the-variants.{Done}
 use Rattle.plan.specs.Codes.{codeOf}
 use Rattle.shape.specs.declared.Stood.{Stood}
 use Rattle.shape.specs.Shapes.{Sized}
-use Rattle.stripe.specs.Stripes.{Encodes, Corrects}
+use Rattle.stripe.specs.Stripes.{Encodes}
+use Rattle.correct.specs.Corrects.{Corrects}
 use Rattle.demands.proofs.Outcomes.{encodes-unique, corrects-unique}
 
 -- ---- 6 and 7 are met

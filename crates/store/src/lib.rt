@@ -169,7 +169,7 @@ pub fn correct(
 ) -> Answer
     ensures { λ r. ⌜ Correct l st (now (stripe .entry)) i off (now (diff .entry)) r (now (stripe .exit)) ⌝ }
 {
-    stripe::correct_by(l, st, stripe, i, off, diff)
+    correct::correct_by(l, st, stripe, i, off, diff)
 }
 
 // Rebuilds a lost block into the spare; for a present one the spare is left alone. Refusals: 6, 7, 8, 9, 13, 14.

@@ -6,9 +6,9 @@ use borrow.Author.Needs.{needs}
 use Rattle.given.proofs.Facts.{given-proper}
 use Rattle.plan.proofs.Fronts.{says-sound}
 use Rattle.plan.proofs.Verdicts.{told-yes, told-no}
-use Rattle.stripe.proofs.Tops.{corrects-front, corrects-9, corrects-11, corrects-12, correct-able, corrects-done}
-use Rattle.stripe.proofs.correct_by.Statement.{statement}
-use Rattle.stripe.proofs.correct_by.Tie as tie
+use Rattle.correct.proofs.Answers.{corrects-front, corrects-9, corrects-11, corrects-12, correct-able, corrects-done}
+use Rattle.correct.proofs.correct_by.Statement.{statement}
+use Rattle.correct.proofs.correct_by.Tie as tie
 
 front-requires : tie.Need-front-requires
 front-requires c κs = search needs
