@@ -1,4 +1,4 @@
--- `store::reader::top` meets its contract: a walk of its MIR, by hand. A `Reader` that one call returns is held in a local and passed to the next. All that the proof knows of `start` and of `group` is that each meets its contract.
+-- `reader::top` meets its contract: a walk of its MIR, by hand. A `Reader` that one call returns is held in a local and passed to the next. All that the proof knows of `start` and of `group` is that each meets its contract.
 -- The machine value that `start` returns is stored and passed on as it is. In a local of a body MIR erases the lifetime of the struct's type, so the value is shown to have the type at `erased`: what the struct owns does not say the lifetime's name.
 -- Assumes nothing.
 use mathlib.Core.Path.{_≡_, refl, ap, _∙_}
@@ -36,25 +36,25 @@ use denote.Triple.Table.{entered, cited}
 use denote.Triple.Walked.{says, Stays, stay-none-slice, walkOf, goes-none-slice, Walks, ends-at, walked, walk-meets}
 use denote.Exit.{yes}
 use denote.Triple.Clauses.{ensured, lasts}
-use Rattle.store.specs.Reader.{started, groupFrom, groupHere}
-use Rattle.store.specs.declared.reader.Reader.{Reader}
+use Rattle.reader.specs.Reader.{started, groupFrom, groupHere}
+use Rattle.reader.specs.declared.Reader.{Reader}
 use Rattle.groups.specs.declared.Walk.{Walk}
-use Rattle.store.proofs.reader.Reader as T
-use Rattle.store.proofs.reader.Reader.Laws as T′
+use Rattle.reader.proofs.Reader as T
+use Rattle.reader.proofs.Reader.Laws as T′
 use Rattle.groups.proofs.Walk as S
 use Rattle.groups.proofs.Walk.Laws as S′
-use Rattle.store.proofs.reader.start as start
-use Rattle.store.proofs.reader.start.Symbol as start-def
-use Rattle.store.proofs.reader.start.Symbol.{name as #start}
-use Rattle.store.proofs.reader.start.Met as start-thm
-use Rattle.store.proofs.reader.group as group
-use Rattle.store.proofs.reader.group.Symbol as group-def
-use Rattle.store.proofs.reader.group.Symbol.{name as #group}
-use Rattle.store.proofs.reader.group.Met as group-thm
-use Rattle.store.proofs.reader.top.Key.{name as #top}
-use Rattle.store.proofs.reader.top as top
-use Rattle.store.proofs.reader.top.Statement as stated
-use Rattle.store.proofs.reader.top.Code as code
+use Rattle.reader.proofs.start as start
+use Rattle.reader.proofs.start.Symbol as start-def
+use Rattle.reader.proofs.start.Symbol.{name as #start}
+use Rattle.reader.proofs.start.Met as start-thm
+use Rattle.reader.proofs.group as group
+use Rattle.reader.proofs.group.Symbol as group-def
+use Rattle.reader.proofs.group.Symbol.{name as #group}
+use Rattle.reader.proofs.group.Met as group-thm
+use Rattle.reader.proofs.top.Key.{name as #top}
+use Rattle.reader.proofs.top as top
+use Rattle.reader.proofs.top.Statement as stated
+use Rattle.reader.proofs.top.Code as code
 
 -- the struct's type, over the signature's lifetimes
 abbrev B : Lfts 1 → RattleType
@@ -158,5 +158,5 @@ top-spec 𝓤 H 𝓜 𝓖 𝓡 =
     entered 𝓤 H (tripleOf 𝓤 H (𝓖 .A) top.signature (top.spec 𝓤 H (𝓖 .A) (𝓜 .mem) (𝓡 .run)))
     (tables 𝓤 H 𝓜 𝓡 code.env .C) (tables 𝓤 H 𝓜 𝓡 code.env .Λ) #top code.function (code.unfolded 𝓤 H 𝓜 𝓡)
     (top-meets 𝓤 H (𝓖 .A) (givenOf 𝓤 H 𝓜 𝓖) (𝓜 .mem) (𝓡 .run) (tablesOf 𝓤 H 𝓜 (tables 𝓤 H 𝓜 𝓡 code.env))
-    (cited 𝓤 H (Start 𝓤 H (𝓖 .A) (𝓜 .mem) (𝓡 .run)) 𝓜 𝓡 code.env #start start-def.routine code.calls-store·reader·start (start-thm.met 𝓤 H 𝓜 𝓖 𝓡))
-    (cited 𝓤 H (Group 𝓤 H (𝓖 .A) (𝓜 .mem) (𝓡 .run)) 𝓜 𝓡 code.env #group group-def.routine code.calls-store·reader·group (group-thm.met 𝓤 H 𝓜 𝓖 𝓡)))
+    (cited 𝓤 H (Start 𝓤 H (𝓖 .A) (𝓜 .mem) (𝓡 .run)) 𝓜 𝓡 code.env #start start-def.routine code.calls-reader·start (start-thm.met 𝓤 H 𝓜 𝓖 𝓡))
+    (cited 𝓤 H (Group 𝓤 H (𝓖 .A) (𝓜 .mem) (𝓡 .run)) 𝓜 𝓡 code.env #group group-def.routine code.calls-reader·group (group-thm.met 𝓤 H 𝓜 𝓖 𝓡)))

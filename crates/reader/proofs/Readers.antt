@@ -9,7 +9,7 @@ use Rattle.groups.specs.declared.Walk.{Walk}
 use Rattle.groups.specs.Groups.{blank}
 use Rattle.note.specs.Note.{groupRead, finish, readNote}
 use Rattle.groups.proofs.Picks.{lt-no}
-use Rattle.store.specs.Reader.{groupFrom}
+use Rattle.reader.specs.Reader.{groupFrom}
 
 -- the group read at a place that is not past the end
 pub from-is : (s : List ℕ) (at : ℕ) (l : Layout) (w : Walk) → at ≤ length s → l ≡ blank → w ≡ groupRead s (length s) 1 0 (record { lay = l; at = at; fault = 0 }) → w ≡ groupFrom s at

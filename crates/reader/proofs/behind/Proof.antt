@@ -1,4 +1,4 @@
--- `store::reader::behind` meets its contract: a walk of its MIR, by hand. The struct is taken apart, `reached` is called on the slice and the number, and a struct is made anew of the slice and what it returns. All that the proof knows of `reached` is that it meets its contract.
+-- `reader::behind` meets its contract: a walk of its MIR, by hand. The struct is taken apart, `reached` is called on the slice and the number, and a struct is made anew of the slice and what it returns. All that the proof knows of `reached` is that it meets its contract.
 -- The struct is Copy: what it owns is had three times. Of one copy what note owns goes to the callee, beside the lifetime's token, which comes back; one is kept whole for the exit; and one, with the facts of the number in the place of at's, is what the result owns.
 -- Assumes nothing.
 use mathlib.Core.Path.{_≡_, refl, ap}
@@ -42,18 +42,18 @@ use denote.Triple.Table.{entered, cited}
 use denote.Triple.Walked.{says, Stays, stay-none, walkOf, goes-none, Walks, ends-at, walked, walk-meets}
 use denote.Exit.{yes}
 use denote.Triple.Clauses.{ensured, lasts}
-use Rattle.store.specs.Reader.{groupHere}
-use Rattle.store.specs.declared.reader.Reader.{Reader}
-use Rattle.store.proofs.reader.Reader as T
-use Rattle.store.proofs.reader.Reader.Laws as T′
-use Rattle.store.proofs.reader.reached as step
-use Rattle.store.proofs.reader.reached.Symbol as step-def
-use Rattle.store.proofs.reader.reached.Symbol.{name as #reached}
-use Rattle.store.proofs.reader.reached.Met as step-thm
-use Rattle.store.proofs.reader.behind.Key.{name as #behind}
-use Rattle.store.proofs.reader.behind as behind
-use Rattle.store.proofs.reader.behind.Statement as stated
-use Rattle.store.proofs.reader.behind.Code as code
+use Rattle.reader.specs.Reader.{groupHere}
+use Rattle.reader.specs.declared.Reader.{Reader}
+use Rattle.reader.proofs.Reader as T
+use Rattle.reader.proofs.Reader.Laws as T′
+use Rattle.reader.proofs.reached as step
+use Rattle.reader.proofs.reached.Symbol as step-def
+use Rattle.reader.proofs.reached.Symbol.{name as #reached}
+use Rattle.reader.proofs.reached.Met as step-thm
+use Rattle.reader.proofs.behind.Key.{name as #behind}
+use Rattle.reader.proofs.behind as behind
+use Rattle.reader.proofs.behind.Statement as stated
+use Rattle.reader.proofs.behind.Code as code
 
 -- the struct's type, over the signature's lifetimes
 abbrev B : Lfts 1 → RattleType
@@ -166,4 +166,4 @@ behind-spec 𝓤 H 𝓜 𝓖 𝓡 =
     entered 𝓤 H (tripleOf 𝓤 H (𝓖 .A) behind.signature (behind.spec 𝓤 H (𝓖 .A) (𝓜 .mem) (𝓡 .run)))
     (tables 𝓤 H 𝓜 𝓡 code.env .C) (tables 𝓤 H 𝓜 𝓡 code.env .Λ) #behind code.function (code.unfolded 𝓤 H 𝓜 𝓡)
     (behind-meets 𝓤 H (𝓖 .A) (givenOf 𝓤 H 𝓜 𝓖) (𝓜 .mem) (𝓡 .run) (tablesOf 𝓤 H 𝓜 (tables 𝓤 H 𝓜 𝓡 code.env))
-    (cited 𝓤 H (Reached 𝓤 H (𝓖 .A) (𝓜 .mem) (𝓡 .run)) 𝓜 𝓡 code.env #reached step-def.routine code.calls-store·reader·reached (step-thm.met 𝓤 H 𝓜 𝓖 𝓡)))
+    (cited 𝓤 H (Reached 𝓤 H (𝓖 .A) (𝓜 .mem) (𝓡 .run)) 𝓜 𝓡 code.env #reached step-def.routine code.calls-reader·reached (step-thm.met 𝓤 H 𝓜 𝓖 𝓡)))

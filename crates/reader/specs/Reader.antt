@@ -7,7 +7,7 @@ use denote.Ref.{RefT, now}
 use Rattle.groups.specs.declared.Walk.{Walk}
 use Rattle.groups.specs.Groups.{ifLt, blank, refusedAt}
 use Rattle.note.specs.Note.{groupRead}
-use Rattle.store.specs.declared.reader.Reader.{Reader}
+use Rattle.reader.specs.declared.Reader.{Reader}
 
 -- the walk at the place `at`, with nothing read
 abbrev pub walkAt : ℕ → Walk

@@ -3,10 +3,10 @@ use mathlib.Core.Path.{refl}
 use native.Mathlib.Omega.{arith}
 use borrow.Author.Needs.{needs}
 use Rattle.groups.proofs.Picks.{lt-yes}
-use Rattle.store.specs.Reader.{groupFrom}
-use Rattle.store.proofs.Readers.{from-is}
-use Rattle.store.proofs.reader.group_at.Statement.{statement}
-use Rattle.store.proofs.reader.group_at.Tie as tie
+use Rattle.reader.specs.Reader.{groupFrom}
+use Rattle.reader.proofs.Readers.{from-is}
+use Rattle.reader.proofs.group_at.Statement.{statement}
+use Rattle.reader.proofs.group_at.Tie as tie
 
 empty-requires : tie.Need-empty-requires
 empty-requires c κs = search needs

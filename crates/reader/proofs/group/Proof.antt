@@ -1,4 +1,4 @@
--- `store::reader::group` meets its contract: a walk of its MIR, by hand. The struct is taken apart, and `group_at` is called on the slice and the number. All that the proof knows of `group_at` is that it meets its contract.
+-- `reader::group` meets its contract: a walk of its MIR, by hand. The struct is taken apart, and `group_at` is called on the slice and the number. All that the proof knows of `group_at` is that it meets its contract.
 -- The struct is Copy: what it owns is had twice, one copy is kept whole for the exit, and of the other what note owns goes to the callee, beside the lifetime's token, which comes back.
 -- Assumes nothing.
 use mathlib.Core.Path.{_≡_, refl}
@@ -42,21 +42,21 @@ use denote.Triple.Table.{entered, cited}
 use denote.Triple.Walked.{says, Stays, stay-none, walkOf, goes-none, Walks, ends-at, walked, walk-meets}
 use denote.Exit.{yes}
 use denote.Triple.Clauses.{ensured, lasts}
-use Rattle.store.specs.Reader.{groupHere}
-use Rattle.store.specs.declared.reader.Reader.{Reader}
+use Rattle.reader.specs.Reader.{groupHere}
+use Rattle.reader.specs.declared.Reader.{Reader}
 use Rattle.groups.specs.declared.Walk.{Walk}
-use Rattle.store.proofs.reader.Reader as T
-use Rattle.store.proofs.reader.Reader.Laws as T′
+use Rattle.reader.proofs.Reader as T
+use Rattle.reader.proofs.Reader.Laws as T′
 use Rattle.groups.proofs.Walk as S
 use Rattle.groups.proofs.Walk.Laws as S′
-use Rattle.store.proofs.reader.group_at as step
-use Rattle.store.proofs.reader.group_at.Symbol as step-def
-use Rattle.store.proofs.reader.group_at.Symbol.{name as #group-at}
-use Rattle.store.proofs.reader.group_at.Met as step-thm
-use Rattle.store.proofs.reader.group.Key.{name as #group}
-use Rattle.store.proofs.reader.group as group
-use Rattle.store.proofs.reader.group.Statement as stated
-use Rattle.store.proofs.reader.group.Code as code
+use Rattle.reader.proofs.group_at as step
+use Rattle.reader.proofs.group_at.Symbol as step-def
+use Rattle.reader.proofs.group_at.Symbol.{name as #group-at}
+use Rattle.reader.proofs.group_at.Met as step-thm
+use Rattle.reader.proofs.group.Key.{name as #group}
+use Rattle.reader.proofs.group as group
+use Rattle.reader.proofs.group.Statement as stated
+use Rattle.reader.proofs.group.Code as code
 
 -- the struct's type, over the signature's lifetimes
 abbrev B : Lfts 1 → RattleType
@@ -162,4 +162,4 @@ group-spec 𝓤 H 𝓜 𝓖 𝓡 =
     entered 𝓤 H (tripleOf 𝓤 H (𝓖 .A) group.signature (group.spec 𝓤 H (𝓖 .A) (𝓜 .mem) (𝓡 .run)))
     (tables 𝓤 H 𝓜 𝓡 code.env .C) (tables 𝓤 H 𝓜 𝓡 code.env .Λ) #group code.function (code.unfolded 𝓤 H 𝓜 𝓡)
     (group-meets 𝓤 H (𝓖 .A) (givenOf 𝓤 H 𝓜 𝓖) (𝓜 .mem) (𝓡 .run) (tablesOf 𝓤 H 𝓜 (tables 𝓤 H 𝓜 𝓡 code.env))
-    (cited 𝓤 H (GroupAt 𝓤 H (𝓖 .A) (𝓜 .mem) (𝓡 .run)) 𝓜 𝓡 code.env #group-at step-def.routine code.calls-store·reader·group-at (step-thm.met 𝓤 H 𝓜 𝓖 𝓡)))
+    (cited 𝓤 H (GroupAt 𝓤 H (𝓖 .A) (𝓜 .mem) (𝓡 .run)) 𝓜 𝓡 code.env #group-at step-def.routine code.calls-reader·group-at (step-thm.met 𝓤 H 𝓜 𝓖 𝓡)))

@@ -2,8 +2,8 @@
 use mathlib.Core.Path.{ap}
 use borrow.Author.Needs.{needs}
 use Rattle.groups.specs.declared.Walk.{Walk}
-use Rattle.store.proofs.reader.reached.Statement.{statement}
-use Rattle.store.proofs.reader.reached.Tie as tie
+use Rattle.reader.proofs.reached.Statement.{statement}
+use Rattle.reader.proofs.reached.Tie as tie
 
 group-at-requires : tie.Need-group-at-requires
 group-at-requires c κs = search needs

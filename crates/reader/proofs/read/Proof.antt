@@ -3,9 +3,9 @@ use mathlib.Core.Path.{refl, _∙_, ap}
 use borrow.Author.Needs.{needs}
 use Rattle.note.specs.Note.{reading}
 use Rattle.groups.proofs.Picks.{lt-yes, lt-no, eq-yes, eq-no}
-use Rattle.store.proofs.Readers.{note-is}
-use Rattle.store.proofs.read.Statement.{statement}
-use Rattle.store.proofs.read.Tie as tie
+use Rattle.reader.proofs.Readers.{note-is}
+use Rattle.reader.proofs.read.Statement.{statement}
+use Rattle.reader.proofs.read.Tie as tie
 
 top-requires : tie.Need-top-requires
 top-requires c κs = search needs

@@ -1,7 +1,10 @@
-// The reader of a note: it is started, reads the group at its place, any place, and is moved behind it.
-use groups::Walk;
+// The reader of a note: it is started, reads the group at its place, any place, and is moved behind it. A note is read through it.
 ghost use mathlib.Core.Path.{_≡_};
-ghost use Rattle.store.specs.Reader.{groupFrom, started, groupHere, pastGroup};
+ghost use Rattle.note.specs.Note.{readNote, reading};
+ghost use Rattle.note.specs.Note.Outcome.{refusal};
+ghost use Rattle.reader.specs.Reader.{groupFrom, started, groupHere, pastGroup};
+use groups::Walk;
+use note::Reading;
 
 // A reference to the note's bytes, and a cursor.
 pub struct Reader<'a> {
@@ -63,4 +66,38 @@ pub fn top(note: &[u8]) -> Walk
     ensures { λ w. ⌜ w ≡ groupFrom (now (note .entry)) 0 ⌝ }
 {
     group(start(note))
+}
+
+// A refusal of a note: the layout is then the blank one.
+fn refused(number: u8, offset: usize) -> Reading
+    ensures { λ r. ⌜ r ≡ reading (refusal number offset) ⌝ }
+{
+    let none = groups::empty();
+    Reading {
+        answer: note::Answer::Refused {
+            number: number,
+            offset: offset,
+        },
+        layout: none,
+    }
+}
+
+// Reads a note, judged by its first group: a fault, bytes after it (4), or its layout.
+pub fn read(note: &[u8]) -> Reading
+    ensures { λ r. ⌜ r ≡ reading (readNote (now (note .entry))) ⌝ }
+{
+    let w = top(note);
+    let at = w.at;
+    let fault = w.fault;
+    if fault != 0 {
+        return refused(fault, at);
+    }
+    if at < note.len() {
+        return refused(4, at);
+    }
+    let lay = w.lay;
+    Reading {
+        answer: note::Answer::Accepted,
+        layout: lay,
+    }
 }

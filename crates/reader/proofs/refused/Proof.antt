@@ -1,7 +1,7 @@
 -- Proved: `refused` meets its contract, from the blank layout.
 use borrow.Author.Needs.{needs}
-use Rattle.store.proofs.refused.Statement.{statement}
-use Rattle.store.proofs.refused.Tie as tie
+use Rattle.reader.proofs.refused.Statement.{statement}
+use Rattle.reader.proofs.refused.Tie as tie
 
 empty-requires : tie.Need-empty-requires
 empty-requires c κs = search needs

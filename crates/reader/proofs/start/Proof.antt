@@ -1,4 +1,4 @@
--- `store::reader::start` meets its contract: a walk of its MIR, by hand. A `Reader` is made of the slice passed and 0, in the result's local.
+-- `reader::start` meets its contract: a walk of its MIR, by hand. A `Reader` is made of the slice passed and 0, in the result's local.
 -- A `&[u8]` is Copy, so what it owns is had twice: once for note at exit, and once inside the result, beside the facts of at.
 -- Assumes nothing.
 use mathlib.Core.Path.{refl}
@@ -35,13 +35,13 @@ use denote.Triple.Spec.{Meets, tripleOf}
 use denote.Triple.Table.{entered}
 use denote.Triple.Walked.{says, Stays, stay-none-slice, walkOf, goes-none-slice, Walks, ends-at, walked, walk-meets}
 use denote.Exit.{yes}
-use Rattle.store.specs.declared.reader.Reader.{Reader}
-use Rattle.store.proofs.reader.Reader as T
-use Rattle.store.proofs.reader.Reader.Laws as T′
-use Rattle.store.proofs.reader.start.Key.{name as #start}
-use Rattle.store.proofs.reader.start as start
-use Rattle.store.proofs.reader.start.Statement as stated
-use Rattle.store.proofs.reader.start.Code as code
+use Rattle.reader.specs.declared.Reader.{Reader}
+use Rattle.reader.proofs.Reader as T
+use Rattle.reader.proofs.Reader.Laws as T′
+use Rattle.reader.proofs.start.Key.{name as #start}
+use Rattle.reader.proofs.start as start
+use Rattle.reader.proofs.start.Statement as stated
+use Rattle.reader.proofs.start.Code as code
 
 abbrev stayed : Stays (start.ended .signature .params) (start.ended .kept)
 stayed = (stay-none-slice (0 ∷ []) tt (plain (λ _. u8)) yes, tt)
