@@ -1,4 +1,4 @@
--- `reader::behind` meets its contract: a walk of its MIR, by hand. The struct is taken apart, `reached` is called on the slice and the number, and a struct is made anew of the slice and what it returns. All that the proof knows of `reached` is that it meets its contract.
+-- Proved: `behind` meets its contract: a walk of its MIR, by hand. The struct is taken apart, `reached` is called on the slice and the number, and a struct is made anew of the slice and what it returns. All that the proof knows of `reached` is that it meets its contract.
 -- The struct is Copy: what it owns is had three times. Of one copy what note owns goes to the callee, beside the lifetime's token, which comes back; one is kept whole for the exit; and one, with the facts of the number in the place of at's, is what the result owns.
 -- Assumes nothing.
 use mathlib.Core.Path.{_≡_, refl, ap}
