@@ -26,7 +26,8 @@ use Rattle.worked.proofs.Rows.{depot-given, depot-blocks, depot-rows}
 use Rattle.worked.proofs.Answers.{in-range}
 use Rattle.shape.specs.declared.Stood.{Stood}
 use Rattle.shape.specs.Shapes.{Sized}
-use Rattle.stripe.specs.Stripes.{Encodes, Corrects}
+use Rattle.stripe.specs.Stripes.{Encodes}
+use Rattle.correct.specs.Corrects.{Corrects}
 use Rattle.demands.proofs.Outcomes.{encodes-unique, corrects-unique}
 
 -- ---- 6 and 7 are met

@@ -32,7 +32,8 @@ use Rattle.repairs.specs.declared.Rebuilding.{Rebuilding}
 use Rattle.repairs.specs.declared.Rebuilding.the-variants.{Whole, Denied, NoPlan}
 use Rattle.repairs.specs.declared.Rebuilt.{Rebuilt}
 use Rattle.shape.specs.Shapes.{Sized, stripeOf}
-use Rattle.stripe.specs.Stripes.{Encodes, Loses, Corrects, Fetches, PartOf, HandedBack, Views}
+use Rattle.stripe.specs.Stripes.{Encodes, Loses, Fetches, PartOf, HandedBack, Views}
+use Rattle.correct.specs.Corrects.{Corrects}
 use Rattle.repairs.specs.Repairs.{told, RepairsOne, RebuildsAll}
 
 -- ---- answers and standings

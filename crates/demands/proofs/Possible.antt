@@ -34,7 +34,7 @@ use Rattle.plan.specs.Front.{FrontSays}
 use Rattle.plan.proofs.Codes.{code-proper}
 use Rattle.shape.specs.Shapes.{Sized, stripeOf}
 use Rattle.stripe.proofs.Answers.{loses-9, loses-11, loses-done}
-use Rattle.stripe.proofs.Tops.{corrects-9, corrects-11, corrects-12}
+use Rattle.correct.proofs.Answers.{corrects-9, corrects-11, corrects-12}
 use Rattle.repairs.proofs.Repairing.{repairs-9, repairs-10}
 use Rattle.store.specs.declared.Said.{Said}
 use Rattle.store.specs.Answers.{spoken}

@@ -78,7 +78,7 @@ fn rebuilt(r: Rebuilt) -> Standing {
 fn correct(l: Layout, st: Standing, stripe: &mut [u8], b: usize, command: &[u8]) -> Standing {
     let off = fields::word(command, 9) as usize;
     let diff = fields::from(command, 19);
-    let a = stripe::correct_by(l, st, stripe, b, off, diff);
+    let a = correct::correct_by(l, st, stripe, b, off, diff);
     answers::answer(a);
     st
 }

@@ -1,3 +1,2 @@
 pub mod Answers
-pub mod Reader
 pub mod Store

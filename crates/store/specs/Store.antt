@@ -15,7 +15,8 @@ use Rattle.price.specs.declared.Limits.{Limits}
 use Rattle.price.specs.declared.Price as Sheet
 use Rattle.price.specs.Sheet.{Priced}
 use Rattle.repairs.specs.declared.Rebuilding.{Rebuilding}
-use Rattle.stripe.specs.Stripes.{Encodes, Loses, Corrects, Fetches, Views}
+use Rattle.stripe.specs.Stripes.{Encodes, Loses, Fetches, Views}
+use Rattle.correct.specs.Corrects.{Corrects}
 use Rattle.repairs.specs.Repairs.{RepairsOne, RebuildsAll}
 use Rattle.store.specs.declared.Said.{Said}
 use Rattle.store.specs.Answers.{spoken, named}

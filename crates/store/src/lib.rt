@@ -1,9 +1,5 @@
 // The store: the calls of document 01. Each answers every input; on a refusal everything lent is as it was.
-pub mod reader;
-
 ghost use mathlib.Core.Path.{_≡_};
-ghost use Rattle.note.specs.Note.{reading};
-ghost use Rattle.note.specs.Note.Outcome.{refusal};
 ghost use Rattle.store.specs.Answers.{spoken, named};
 ghost use Rattle.store.specs.Store.{Read, Encode, Lose, Plan, Repair, Rebuild, Correct, Fetch, View, Price};
 use groups::Layout;
@@ -169,7 +165,7 @@ pub fn correct(
 ) -> Answer
     ensures { λ r. ⌜ Correct l st (now (stripe .entry)) i off (now (diff .entry)) r (now (stripe .exit)) ⌝ }
 {
-    stripe::correct_by(l, st, stripe, i, off, diff)
+    correct::correct_by(l, st, stripe, i, off, diff)
 }
 
 // Rebuilds a lost block into the spare; for a present one the spare is left alone. Refusals: 6, 7, 8, 9, 13, 14.
@@ -193,36 +189,9 @@ pub fn price(l: Layout, limits: Limits) -> price::Price
     price::price_of(l, limits)
 }
 
-// A refusal of a note: the layout is then the blank one.
-fn refused(number: u8, offset: usize) -> Reading
-    ensures { λ r. ⌜ r ≡ reading (refusal number offset) ⌝ }
-{
-    let none = groups::empty();
-    Reading {
-        answer: note::Answer::Refused {
-            number: number,
-            offset: offset,
-        },
-        layout: none,
-    }
-}
-
 // Reads a note. Refusals: 1 to 5, the first fault in reading order, with its offset.
 pub fn read(note: &[u8]) -> Reading
     ensures { λ r. ⌜ Read (now (note .entry)) r ⌝ }
 {
-    let w = reader::top(note);
-    let at = w.at;
-    let fault = w.fault;
-    if fault != 0 {
-        return refused(fault, at);
-    }
-    if at < note.len() {
-        return refused(4, at);
-    }
-    let lay = w.lay;
-    Reading {
-        answer: note::Answer::Accepted,
-        layout: lay,
-    }
+    reader::read(note)
 }

@@ -18,7 +18,7 @@ use Rattle.plan.specs.declared.Standing.{Standing}
 use Rattle.stripe.specs.declared.Part.{Part}
 use Rattle.shape.specs.Shapes.{Sized}
 use Rattle.stripe.specs.Stripes.{PartOf, HandedBack, partIn, Placed, Views, sliceOf}
-use Rattle.stripe.proofs.Tops.{FetchIs}
+use Rattle.stripe.proofs.Fetching.{FetchIs}
 
 -- ---- parts
 

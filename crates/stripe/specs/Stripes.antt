@@ -1,4 +1,4 @@
--- Believed: document 01, "Repairs, corrections, reading": what an encoding, a loss, a correction, a fetch and a view answer and leave, through the
+-- Believed: document 01, "Repairs, corrections, reading": what an encoding, a loss, a fetch and a view answer and leave, through the
 -- definitions of `calls` at the layout's own matrix and order. A refusal alters nothing lent.
 use mathlib.Core.Path.{_≡_}
 use mathlib.Core.List.{List, [], _∷_}
@@ -10,7 +10,7 @@ use Rattle.groups.specs.declared.Layout.{Layout}
 use Rattle.given.specs.Given.{Given}
 use Rattle.marks.specs.Marks.{marked}
 use Rattle.calls.specs.Calls as Calls
-use Rattle.calls.specs.Calls.{_unless_, by, done, refused, encode, lose, correct, fetch, Verdict, Outcome, Fetch}
+use Rattle.calls.specs.Calls.{_unless_, by, done, refused, encode, lose, fetch, Verdict, Outcome, Fetch}
 use Rattle.plan.specs.declared.Standing.{Standing}
 use Rattle.plan.specs.declared.Answer.{Answer}
 use Rattle.plan.specs.Codes.{codeOf, InRange, front}
@@ -31,11 +31,6 @@ pub record Loses (l : Layout) (st : Standing) (b : ℕ) (r : Stood) : Type 0 whe
   pub outcome : (xs : List ℕ) → Outcome (front l st (InRange (st .len))) (codeOf l (st .len)) (stripeOf st xs) (lose b)
       (said (r .answer)) (stripeOf (r .standing) xs)
   pub len : r .standing .len ≡ st .len
-
--- a correction asks 6, 7, 8, then 9 (not below k), 11 and 12
-pub record Corrects (l : Layout) (st : Standing) (i off : ℕ) (d xs ys : List ℕ) (r : Answer) : Type 0 where
-  pub outcome : Outcome (front l st (Sized l (st .len) (length xs))) (codeOf l (st .len)) (stripeOf st xs) (correct i off d) (said r) (stripeOf st ys)
-  pub long : length ys ≡ length xs
 
 -- fetching asks 6, 7, 8, then 9, 13 and 14
 pub record Fetches (l : Layout) (st : Standing) (b : ℕ) (xs old new : List ℕ) (r : Answer) : Type 0 where

@@ -1,7 +1,5 @@
-// The calls on a stripe but those that repair it, with its standing by value. A stripe holds its blocks one after another: block b from b * len on.
-ghost use Prim.Native.Nat.{_+_, _≤_};
-ghost use Rattle.given.specs.Given.{Tells};
-ghost use Rattle.stripe.specs.Stripes.{Encodes, Loses, Corrects, Fetches, Placed, Views};
+// The calls on a stripe but those that repair or correct it, with its standing by value. A stripe holds its blocks one after another: block b from b * len on.
+ghost use Rattle.stripe.specs.Stripes.{Encodes, Loses, Fetches, Placed, Views};
 use groups::Layout;
 use plan::Answer;
 use plan::Standing;
@@ -60,52 +58,6 @@ pub fn lose_by(l: Layout, st: Standing, b: usize) -> Stood
         standing: marked,
         answer: Answer::Done,
     }
-}
-
-// Whether m bytes from off on stay below len. No sum is made, so none wraps.
-fn stays(off: usize, m: usize, len: usize) -> bool
-    ensures { λ r. ⌜ Tells r (off + m ≤ len) ⌝ }
-{
-    if len < m {
-        return false;
-    }
-    if len - m < off {
-        return false;
-    }
-    true
-}
-
-// Lays a difference into data block i at an offset, and its multiples into the surviving redundant blocks.
-pub fn correct_by(
-    l: Layout,
-    st: Standing,
-    stripe: &mut [u8],
-    i: usize,
-    off: usize,
-    diff: &[u8],
-) -> Answer
-    ensures { λ r. ⌜ Corrects l st i off (now (diff .entry)) (now (stripe .entry)) (now (stripe .exit)) r ⌝ }
-{
-    let f = shape::front(l, st, stripe.len());
-    if f != 0 {
-        return Answer::Refused(f);
-    }
-    if l.k <= i {
-        return Answer::Refused(9);
-    }
-    let lost = st.lost;
-    if marks::holds(lost, i) {
-        return Answer::Refused(11);
-    }
-    let len = st.len;
-    if !stays(off, diff.len(), len) {
-        return Answer::Refused(12);
-    }
-    let n = l.k + l.r;
-    let mut matrix = [0u8; 1536];
-    rows::matrix(l, &mut matrix);
-    corrections::correct_all(&matrix, stripe, lost, l.k, n, len, i, off, diff);
-    Answer::Done
 }
 
 // Rebuilds a lost block into the spare; for a present one the spare is left alone.

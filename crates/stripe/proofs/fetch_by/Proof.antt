@@ -5,7 +5,7 @@ use borrow.Author.Needs.{needs}
 use borrow.Author.Tests.{not-true, not-false}
 use Rattle.given.proofs.Facts.{given-proper}
 use Rattle.plan.proofs.Fronts.{says-sound}
-use Rattle.stripe.proofs.Tops.{plan-sources, fetch-front, fetch-9, fetch-13, fetch-present, fetch-14, fetch-planned, fetches-refused, fetches-present, fetches-done}
+use Rattle.stripe.proofs.Fetching.{plan-sources, fetch-front, fetch-9, fetch-13, fetch-present, fetch-14, fetch-planned, fetches-refused, fetches-present, fetches-done}
 use Rattle.stripe.proofs.fetch_by.Statement.{statement}
 use Rattle.stripe.proofs.fetch_by.Tie as tie
 

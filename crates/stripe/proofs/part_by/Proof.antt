@@ -5,7 +5,7 @@ use borrow.Author.Needs.{needs}
 use borrow.Author.Tests.{not-true, not-false}
 use Rattle.given.proofs.Facts.{given-proper}
 use Rattle.plan.proofs.Fronts.{says-sound}
-use Rattle.stripe.proofs.Tops.{fetch-front, fetch-9, fetch-13, fetch-present, fetch-14, fetch-planned}
+use Rattle.stripe.proofs.Fetching.{fetch-front, fetch-9, fetch-13, fetch-present, fetch-14, fetch-planned}
 use Rattle.stripe.proofs.Viewing.{inside, placed-refused, placed-present, placed-lost}
 use Rattle.stripe.proofs.part_by.Statement.{statement}
 use Rattle.stripe.proofs.part_by.Tie as tie
