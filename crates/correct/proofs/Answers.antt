@@ -15,13 +15,13 @@ use Rattle.rows.specs.Answers.{Matrix}
 use Rattle.calls.specs.Calls.{correct, Verdict}
 use Rattle.plan.specs.declared.Standing.{Standing}
 use Rattle.plan.specs.declared.Answer.the-variants.{Done, Refused}
-use Rattle.plan.specs.Codes.{codeOf, front}
+use Rattle.plan.specs.Codes.{codeOf, front, Sound}
 use Rattle.plan.specs.Plans.{said}
 use Rattle.plan.specs.Front.{FrontSays}
 use Rattle.corrections.specs.Corrections.{Correctable, CorrectedList}
 use Rattle.shape.specs.Shapes.{Sized}
 use Rattle.correct.specs.Corrects.{Corrects}
-use Rattle.plan.proofs.Fronts.{Sound, front-refused}
+use Rattle.plan.proofs.Fronts.{front-refused}
 use Rattle.corrections.proofs.Effects.{corrected}
 use Rattle.shape.proofs.Matrices.{layout-renders}
 

@@ -15,7 +15,7 @@ use Rattle.given.proofs.Facts.{given-proper}
 use Rattle.marks.specs.Marks.{marked}
 use Rattle.rows.specs.Rows.{blocks, row}
 use Rattle.rows.proofs.Parts.{row-byte}
-use Rattle.calls.specs.Code.{HasPlan, PlanOf}
+use Rattle.calls.specs.Code.{HasPlan}
 use Rattle.calls.specs.Calls as Calls
 use Rattle.calls.specs.Calls.{Verdict, repair, done, refused, by, naming}
 use Rattle.calls.proofs.Plans.{has-plan-iff, one-plan}
@@ -27,7 +27,7 @@ use Rattle.plan.specs.declared.Answer.{Answer}
 use Rattle.plan.specs.declared.Answer.the-variants.{Done, Refused}
 use Rattle.plan.specs.declared.Planned.{Planned}
 use Rattle.plan.specs.Codes.{codeOf, InRange, front, Sound}
-use Rattle.plan.specs.Listing.{blank, listOf}
+use Rattle.plan.specs.Listing.{listOf}
 use Rattle.plan.specs.Plans.{said, IsListed, refusal, Plans}
 use Rattle.plan.specs.Inner.{Coefficients}
 use Rattle.plan.specs.Front.{FrontSays}

@@ -1,4 +1,4 @@
--- Believed: document 01, "When the store says no": what the answer of a call that changes the standing says in numbers: "0 for accepted", a refusal's
+-- Believed: document 01, "When the store says no": what the answer of a call that changes the standing says in numbers: 0 for accepted, a refusal's
 -- number, and for a rebuild's 14 the block it names.
 use Rattle.plan.specs.declared.Answer.{Answer}
 use Rattle.plan.specs.declared.Answer.the-variants.{Done, Refused}

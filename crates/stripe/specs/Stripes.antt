@@ -41,12 +41,12 @@ pub record PartOf (s : RefT (List ℕ)) (at m : ℕ) (r : RefT (List ℕ)) : Typ
   pub holds : now r ≡ take m (drop at (now s))
   pub place : r .ptr ≡ (s .ptr .0, at + s .ptr .1)
 
--- "the part of the stripe or the part of the spare that holds the block, chosen by whether it is lost"
+-- "the part of the stripe, or the part of the spare, that holds the block: a present block where it stands, a lost one from the spare as it is"
 pub record Viewed (st : Standing) (b : ℕ) (stripe spare r : RefT (List ℕ)) : Type 0 where
   pub lost : marked (st .lost) b ≡ true → PartOf spare 0 (st .len) r
   pub present : marked (st .lost) b ≡ false → PartOf stripe (b * st .len) (st .len) r
 
--- "the empty part exactly where fetching would refuse": it stands at the front of the spare
+-- "Where the first would refuse, the second hands back an empty part": it stands at the front of the spare
 abbrev pub HandedBack : Standing → ℕ → RefT (List ℕ) → RefT (List ℕ) → Calls.Answer → RefT (List ℕ) → Type 0
 HandedBack st b stripe spare (refused _) r = PartOf spare 0 0 r
 HandedBack st b stripe spare done r = Viewed st b stripe spare r
