@@ -19,7 +19,7 @@ pub struct Reading {
 }
 
 // A refusal: the layout is then the blank one.
-fn refused(number: u8, offset: usize) -> Reading
+pub fn refused(number: u8, offset: usize) -> Reading
     ensures { λ r. ⌜ r ≡ reading (refusal number offset) ⌝ }
 {
     let none = groups::empty();

@@ -1,7 +1,6 @@
 // The reader of a note: it is started, reads the group at its place, any place, and is moved behind it. A note is read through it.
 ghost use mathlib.Core.Path.{_≡_};
 ghost use Rattle.note.specs.Note.{readNote, reading};
-ghost use Rattle.note.specs.Note.Outcome.{refusal};
 ghost use Rattle.reader.specs.Reader.{groupFrom, started, groupHere, pastGroup};
 use groups::Walk;
 use note::Reading;
@@ -68,20 +67,6 @@ pub fn top(note: &[u8]) -> Walk
     group(start(note))
 }
 
-// A refusal of a note: the layout is then the blank one.
-fn refused(number: u8, offset: usize) -> Reading
-    ensures { λ r. ⌜ r ≡ reading (refusal number offset) ⌝ }
-{
-    let none = groups::empty();
-    Reading {
-        answer: note::Answer::Refused {
-            number: number,
-            offset: offset,
-        },
-        layout: none,
-    }
-}
-
 // Reads a note, judged by its first group: a fault, bytes after it (4), or its layout.
 pub fn read(note: &[u8]) -> Reading
     ensures { λ r. ⌜ r ≡ reading (readNote (now (note .entry))) ⌝ }
@@ -90,10 +75,10 @@ pub fn read(note: &[u8]) -> Reading
     let at = w.at;
     let fault = w.fault;
     if fault != 0 {
-        return refused(fault, at);
+        return note::refused(fault, at);
     }
     if at < note.len() {
-        return refused(4, at);
+        return note::refused(4, at);
     }
     let lay = w.lay;
     Reading {

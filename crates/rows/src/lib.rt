@@ -9,12 +9,6 @@ ghost use Rattle.rows.specs.Inner.{ownsIn, rowIn, entryIn, Fit, Homed, R
 use groups::Group;
 use groups::Layout;
 
-fn wide(x: u8) -> usize
-    ensures { λ r. ⌜ r ≡ x ⌝ }
-{
-    x as usize
-}
-
 // Whether b is one of the m numbers from a on.
 pub fn among(a: usize, m: usize, b: usize) -> bool
     requires { ⌜ a + m ≤ 64 ⌝ }
@@ -32,9 +26,9 @@ fn owned(g: Group, k: usize, b: usize) -> bool
     ensures { λ r. ⌜ r ≡ ownsIn g k b ⌝ }
 {
     if b < k {
-        return among(g.first, wide(g.d), b);
+        return among(g.first, groups::wide(g.d), b);
     }
-    among(k + g.redundant, wide(g.h), b)
+    among(k + g.redundant, groups::wide(g.h), b)
 }
 
 // The home of block b.
