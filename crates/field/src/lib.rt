@@ -1,4 +1,6 @@
 // The field of 256 elements and the scaled addition of document 01, "Field and coefficients".
+#![tactic(auto)]
+
 mod logs;
 mod powers;
 

@@ -1,11 +1,13 @@
 // Linear algebra over the field of 256 elements: whether a row is a combination of the survivors' rows, and by which coefficients.
+#![tactic(auto)]
+
 ghost use Rattle.std.specs.Prelude.{◌≡◌, ◌+◌, ◌*◌, ◌<◌, length};
 ghost use Rattle.linear.specs.Reduction.{Triangular};
 ghost use Rattle.linear.specs.Slots.{slot, Cleared, Filled, FirstColumn, Shape, Reduced, Absorbed, Taken};
 ghost use Rattle.linear.specs.Solved.{vec, Survivors, Solved};
 
 // Where found, the coefficient of each block by its number; otherwise zeros.
-#[derive(Drop)]
+#[derive(Clone, Copy)]
 pub struct Answer {
     pub found: bool,
     pub coef: [u8; 48],

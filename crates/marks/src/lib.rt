@@ -1,4 +1,6 @@
 // Sets of blocks as 64 marks: bit b of a number is the mark of block b.
+#![tactic(auto)]
+
 ghost use Rattle.std.specs.Prelude.{◌≡◌, ◌<◌};
 ghost use Rattle.marks.specs.Marks.{marked, with_mark, without_mark, none_from};
 

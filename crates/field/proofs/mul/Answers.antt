@@ -1,0 +1,20 @@
+-- Proved: `mul` meets its contract. With a zero byte the product is 0; otherwise it is the power at the sum of the logarithms.
+use mathlib.Core.Path.{sym, ap, ◌∙◌}
+use Prim.Native.Nat.{ℕ}
+use native.Mathlib.Omega.{arith}
+use Rattle.field.specs.Field.{mul}
+use Rattle.field.proofs.Product.{mul_zero_l, mul_zero_r}
+use Rattle.field.proofs.Laws.{mul_logs}
+use Rattle.field.proofs.mul.Goals as goal
+
+pub returns-then-a-eq0 : goal.returns-then-a-eq0
+returns-then-a-eq0 c = sym (ap (λ (x : ℕ). mul x c.args.b) c.if-a-eq0.true ∙ mul_zero_l c.args.b)
+
+pub returns-then-b-eq0 : goal.returns-then-b-eq0
+returns-then-b-eq0 c = sym (ap (mul c.args.a) c.if-b-eq0.true ∙ mul_zero_r c.args.a)
+
+pub returns : goal.returns
+returns c =
+    c.power_at.ensures
+    ∙ mul_logs c.args.a c.args.b c.log_of.result c.log_of-2.result
+    (c.log_of.ensures.exact (omega arith)) (c.log_of-2.ensures.exact (omega arith))
