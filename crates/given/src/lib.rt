@@ -1,4 +1,6 @@
 // Which layouts notes give: refusal 6 of document 01 is for the others.
+#![tactic(auto)]
+
 mod same;
 mod writer;
 

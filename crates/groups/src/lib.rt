@@ -1,11 +1,13 @@
 // The groups of a layout, and the reader's state: a group is entered in the layout so far if the running totals allow it.
+#![tactic(auto)]
+
 ghost use Rattle.std.specs.Prelude.{◌≡◌, ◌-◌, ◌≤◌, ◌<◌};
 ghost use Rattle.groups.specs.Groups.{blank, bound_passed, refused_at, entered, closed, at_start};
 ghost use Rattle.groups.specs.Inner.{Sound, Enterable};
 
 // A group of a layout.
 #[repr(C)]
-#[derive(Drop)]
+#[derive(Clone, Copy)]
 pub struct Group {
     // its own redundant blocks
     pub h: u8,
@@ -27,7 +29,7 @@ pub struct Group {
 
 // A layout: its groups in the order of their headers, zeros from `groups` on; k data blocks and r redundant blocks in all.
 #[repr(C)]
-#[derive(Drop)]
+#[derive(Clone, Copy)]
 pub struct Layout {
     pub groups: usize,
     pub list: [Group; 16],
@@ -36,7 +38,7 @@ pub struct Layout {
 }
 
 // The reader's state: the layout so far, its place in the note, and the fault found (0: none), whose offset is then the place.
-#[derive(Drop)]
+#[derive(Clone, Copy)]
 pub struct Walk {
     pub lay: Layout,
     pub at: usize,

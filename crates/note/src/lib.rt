@@ -1,4 +1,6 @@
 // The layout note of document 01: reading one.
+#![tactic(auto)]
+
 pub mod reader;
 
 ghost use Rattle.std.specs.Prelude.{◌≡◌};
@@ -8,14 +10,14 @@ ghost use Rattle.note.specs.Note.Outcome.{refusal};
 use groups::Layout;
 
 // What reading a note gives: accepted, or a refusal with its number and the offset of the record at fault.
-#[derive(Drop)]
+#[derive(Clone, Copy)]
 pub enum Answer {
     Accepted,
     Refused { number: u8, offset: usize },
 }
 
 // The answer, with the layout: of a refused note the blank one.
-#[derive(Drop)]
+#[derive(Clone, Copy)]
 pub struct Reading {
     pub answer: Answer,
     pub layout: Layout,

@@ -6,7 +6,7 @@ ghost use Rattle.note.specs.Inner.{Ready, InBranch};
 use groups::Walk;
 
 // What stands where a record must start: a fault with its number, a leaf, or a branch with the length that it gives.
-#[derive(Drop)]
+#[derive(Clone, Copy)]
 enum Head {
     Bad(u8),
     Leaf { h: u8, d: u8 },

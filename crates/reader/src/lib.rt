@@ -1,4 +1,6 @@
 // The reader of a note: it is started, reads the group at its place, any place, and is moved behind it. A note is read through it.
+#![tactic(auto)]
+
 ghost use Rattle.std.specs.Prelude.{◌≡◌};
 ghost use Rattle.note.specs.Note.{read_note, reading};
 ghost use Rattle.reader.specs.Reader.{group_from, started, group_here, past_group};
