@@ -1,6 +1,6 @@
 -- Proved: which facts make which answer to the question for a plan, and that at most one answer fits.
 use mathlib.Core.Path.{◌≡◌, refl, sym, ap, ◌∙◌}
-use mathlib.Core.Bool.{Bool, true, false, not}
+use mathlib.Core.Bool.{Bool, true, false}
 use mathlib.Core.Logic.{inl, inr}
 use Prim.Native.Nat.{ℕ, ◌<◌, ◌≤◌}
 use native.Mathlib.Omega.{arith}
@@ -37,12 +37,12 @@ use Rattle.plan.proofs.Listings.{list_of_less, list_of_cong, tally_less}
 
 -- ---- a test's answer
 
-pub told_yes : {P : Type 0} (t : Bool) → Tells t P → not t ≡ false → P
+pub told_yes : {P : Type 0} (t : Bool) → Tells t P → t ≡ true → P
 told_yes true p e = p
-told_yes false p e = in_and_out refl e
+told_yes false p e = in_and_out e refl
 
-pub told_no : {P : Type 0} (t : Bool) → Tells t P → not t ≡ true → P → ⊥
-told_no true p e = in_and_out e refl
+pub told_no : {P : Type 0} (t : Bool) → Tells t P → t ≡ false → P → ⊥
+told_no true p e = in_and_out refl e
 told_no false p e = p
 
 -- ---- each answer

@@ -1,4 +1,6 @@
 // The plan of a lost block.
+#![tactic(auto)]
+
 ghost use Rattle.std.specs.Prelude.{◌≡◌, ◌<◌, ◌≤◌, length};
 ghost use Rattle.given.specs.Given.{Given};
 ghost use Rattle.rows.specs.Rows.{blocks};
@@ -14,14 +16,14 @@ use groups::Layout;
 
 // The standing of a stripe: L, and the set of lost blocks, bit b being block b's mark. Every value has a meaning.
 #[repr(C)]
-#[derive(Drop)]
+#[derive(Clone, Copy)]
 pub struct Standing {
     pub len: usize,
     pub lost: u64,
 }
 
 // Accepted, or refused with a number of document 01's table.
-#[derive(Drop)]
+#[derive(Clone, Copy)]
 pub enum Answer {
     Done,
     Refused(u8),
@@ -29,7 +31,7 @@ pub enum Answer {
 
 // A plan: how many blocks it reads, their numbers, rising, and their coefficients. Entries that are not in use are 0.
 #[repr(C)]
-#[derive(Drop)]
+#[derive(Clone, Copy)]
 pub struct Plan {
     pub reads: usize,
     pub block: [u8; 32],
@@ -37,7 +39,7 @@ pub struct Plan {
 }
 
 // The answer to the question for a plan; where it is refused, the blank plan.
-#[derive(Drop)]
+#[derive(Clone, Copy)]
 pub struct Planned {
     pub answer: Answer,
     pub plan: Plan,

@@ -1,4 +1,6 @@
 // From a layout: the home and the row of each block.
+#![tactic(auto)]
+
 ghost use Rattle.std.specs.Prelude.{◌≡◌, ◌+◌, ◌*◌, ◌≤◌, ◌<◌, length};
 ghost use Rattle.given.specs.Given.{Given};
 ghost use Rattle.rows.specs.Rows.{among, home, row};

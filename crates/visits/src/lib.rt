@@ -1,4 +1,6 @@
 // From a layout: the order in which the plan of a lost block visits the survivors.
+#![tactic(auto)]
+
 ghost use Rattle.std.specs.Prelude.{◌≡◌, not, ◌&&◌, ◌+◌, ◌≤◌, ◌<◌, eqb, length};
 ghost use Rattle.linear.specs.Solved.{vec};
 ghost use Rattle.given.specs.Given.{Given};
@@ -11,7 +13,7 @@ ghost use Rattle.visits.specs.Inner.{Steps, chosen, gathered, pushed, Extended};
 use groups::Layout;
 
 // Blocks in the order in which they are visited: the first `count` entries. Behind them stand zeros.
-#[derive(Drop)]
+#[derive(Clone, Copy)]
 pub struct Visits {
     pub count: usize,
     pub blocks: [u8; 48],

@@ -1,1 +1,2 @@
 // No code: what document 01 works through of a depot pair, against the definitions.
+#![tactic(auto)]
