@@ -1,4 +1,6 @@
 // The call that corrects a stripe, with its standing by value. The work on the bytes is that of `corrections`.
+#![tactic(auto)]
+
 ghost use Rattle.std.specs.Prelude.{◌+◌, ◌≤◌};
 ghost use Rattle.given.specs.Given.{Tells};
 ghost use Rattle.correct.specs.Corrects.{Corrects};

@@ -1,4 +1,6 @@
 // Corrections: a difference laid into a data block, and its multiples into the redundant blocks. Nothing here knows of a call.
+#![tactic(auto)]
+
 ghost use Rattle.std.specs.Prelude.{◌+◌, ◌<◌, ◌≤◌, length};
 ghost use Rattle.corrections.specs.Corrections.{Laid, Correctable, Touched, Spread, CorrectedList};
 

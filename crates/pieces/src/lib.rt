@@ -1,4 +1,6 @@
 // Combinations of blocks, and blocks written from them. Nothing here knows of a call.
+#![tactic(auto)]
+
 pub mod encoding;
 
 ghost use Rattle.std.specs.Prelude.{◌≡◌, ◌+◌, ◌<◌, ◌≤◌, length};

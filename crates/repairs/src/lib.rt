@@ -1,4 +1,6 @@
 // The calls that repair a stripe, one lost block or all of them, with its standing by value.
+#![tactic(auto)]
+
 mod turns;
 
 ghost use Rattle.repairs.specs.Repairs.{RepairsOne, RebuildsAll};
@@ -8,7 +10,7 @@ use plan::{Answer, Standing};
 use shape::Stood;
 
 // A rebuild is accepted, refused by its number, or refused with 14, naming the lowest lost block that has no plan.
-#[derive(Drop)]
+#[derive(Clone, Copy)]
 pub enum Rebuilding {
     Whole,
     Denied(u8),
@@ -16,7 +18,7 @@ pub enum Rebuilding {
 }
 
 // The standing after a rebuild, and its answer.
-#[derive(Drop)]
+#[derive(Clone, Copy)]
 pub struct Rebuilt {
     pub standing: Standing,
     pub answer: Rebuilding,

@@ -1,4 +1,6 @@
 // What every call on a stripe asks first, and what a refusal gives back.
+#![tactic(auto)]
+
 ghost use Rattle.std.specs.Prelude.{◌≡◌};
 ghost use Rattle.plan.specs.Front.{FrontSays};
 ghost use Rattle.shape.specs.Front.{refusal, ShapeSays};
@@ -8,7 +10,7 @@ use groups::Layout;
 use plan::{Answer, Standing};
 
 // The standing after a call, and the call's answer.
-#[derive(Drop)]
+#[derive(Clone, Copy)]
 pub struct Stood {
     pub standing: Standing,
     pub answer: Answer,

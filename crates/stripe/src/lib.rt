@@ -1,4 +1,6 @@
 // The calls on a stripe but those that repair or correct it, with its standing by value. A stripe holds its blocks one after another: block b from b * len on.
+#![tactic(auto)]
+
 ghost use Rattle.stripe.specs.Stripes.{Encodes, Loses, Fetches, Placed, Views};
 
 use groups::Layout;
@@ -7,7 +9,7 @@ use shape::Stood;
 
 // The part of the stripe or of the spare that holds a block: `slice` 0 is the stripe, 1 the spare; `len` bytes from `from` on.
 #[repr(C)]
-#[derive(Drop)]
+#[derive(Clone, Copy)]
 pub struct Part {
     pub slice: u8,
     pub from: usize,

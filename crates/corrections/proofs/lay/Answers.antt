@@ -1,0 +1,7 @@
+-- Proved: `lay` meets its contract: the part from `at` on gets the multiple, and nothing else changes.
+use native.Mathlib.Omega.{arith}
+use Rattle.corrections.proofs.Laying.{laid_in_lem}
+use Rattle.corrections.proofs.lay.Goals as goal
+
+pub returns : goal.returns
+returns c = rw c.scaled_add.ensures (laid_in_lem _ _ _ _ (omega arith))
