@@ -221,7 +221,7 @@ module _ {l : Layout} {L : ℕ} where
   any_run {st} {xs} s none = record { turns = []; standing = st; stripe = xs; called = refl; stands = s; run = rest (alone st xs) }
   any_run {st} {xs} s (a_loss b c) =
       let x = any_lose l st xs s.sound b in
-      let more = any_run (passage s (loss (alone st xs) x.2 (rest (alone x.1 xs)))).stands c in
+      let more = any_run {st = x.1} {xs = xs} (passage s (loss (alone st xs) x.2 (rest (alone x.1 xs)))).stands c in
       record {
         turns = record { call = lose b; answer = numbered x.0.number } ∷ more.turns;
         standing = more.standing;
@@ -232,7 +232,7 @@ module _ {l : Layout} {L : ℕ} where
       }
   any_run {st} {xs} s (a_repair b c) =
       let x = any_repair l st xs s.sound b in
-      let more = any_run (passage s (mend (alone st xs) x.3 (rest (alone x.1 x.2)))).stands c in
+      let more = any_run {st = x.1} {xs = x.2} (passage s (mend (alone st xs) x.3 (rest (alone x.1 x.2)))).stands c in
       record {
         turns = record { call = repair b; answer = numbered x.0.number } ∷ more.turns;
         standing = more.standing;
@@ -243,7 +243,7 @@ module _ {l : Layout} {L : ℕ} where
       }
   any_run {st} {xs} s (a_correction i off d small c) =
       let x = any_correct l st xs s.sound i off d small in
-      let more = any_run (passage s (amend (alone st xs) x.2 (rest (alone st x.1)))).stands c in
+      let more = any_run {st = st} {xs = x.1} (passage s (amend (alone st xs) x.2 (rest (alone st x.1)))).stands c in
       record {
         turns = record { call = correct i off d; answer = said x.0 } ∷ more.turns;
         standing = more.standing;

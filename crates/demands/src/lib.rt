@@ -1,1 +1,2 @@
 // No code: the demands as statements over what the store's calls promise.
+#![tactic(auto)]

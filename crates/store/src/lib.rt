@@ -1,4 +1,6 @@
 // The store: the calls of document 01. Each answers every input; on a refusal everything lent is as it was.
+#![tactic(auto)]
+
 ghost use Rattle.std.specs.Prelude.{◌≡◌};
 ghost use Rattle.store.specs.Answers.{spoken, named};
 ghost use Rattle.store.specs.Store.{Read, Encode, Lose, Plan, Repair, Rebuild, Correct, Fetch, View, Price};
@@ -11,14 +13,14 @@ use repairs::Rebuilding;
 
 // 0 where the call is accepted, otherwise the number of its refusal; for a rebuild's 14 the lowest lost block that has no plan, and 0 in every other case.
 #[repr(C)]
-#[derive(Drop)]
+#[derive(Clone, Copy)]
 pub struct Said {
     pub number: u8,
     pub block: usize,
 }
 
 // The standing after a call, and its answer.
-#[derive(Drop)]
+#[derive(Clone, Copy)]
 pub struct Left {
     pub standing: Standing,
     pub said: Said,
