@@ -1,4 +1,6 @@
-// The calls of the store for C and Rust (include/store.h): numbers, slices and plain structs cross, and nothing else.
+// The calls of the store for C and Rust (include/store.h), which `bridge_c` exports: numbers, slices and plain structs cross, and nothing else.
+#![tactic(auto)]
+
 ghost use Rattle.bridge.specs.Exports.{note_numbers, plan_numbers, price_numbers, ReadSays, PlanSays, CorrectSays, FetchSays, ViewSays, PriceSays};
 ghost use Rattle.store.specs.Store.{Encode, Lose, Repair, Rebuild};
 ghost use Rattle.std.specs.Prelude.{◌≡◌};
@@ -12,7 +14,7 @@ use stripe::Part;
 
 // What reading a note says: 0 and the layout; or the refusal's number, the offset of the record at fault, and the blank layout.
 #[repr(C)]
-#[derive(Drop)]
+#[derive(Clone, Copy)]
 pub struct NoteSaid {
     pub number: u8,
     pub offset: usize,
@@ -21,7 +23,7 @@ pub struct NoteSaid {
 
 // What the question for a plan says: 0 and the plan; or the refusal's number and the blank plan.
 #[repr(C)]
-#[derive(Drop)]
+#[derive(Clone, Copy)]
 pub struct PlanSaid {
     pub number: u8,
     pub plan: Plan,
@@ -29,7 +31,7 @@ pub struct PlanSaid {
 
 // What the price sheet says. The verdict is 0: fits, 1: too large, 2: too many reads, 3: refused, by `number`. A figure that the case does not carry is 0.
 #[repr(C)]
-#[derive(Drop)]
+#[derive(Clone, Copy)]
 pub struct PriceSaid {
     pub verdict: u8,
     pub number: u8,
@@ -103,8 +105,7 @@ fn price_numbers(a: Price) -> PriceSaid
 }
 
 // Reads a note.
-#[unsafe(no_mangle)]
-pub extern "C" fn store_read(note: &[u8]) -> NoteSaid
+pub fn store_read(note: &[u8]) -> NoteSaid
     ensures { ReadSays note.now result }
 {
     let a = store::read(note);
@@ -112,8 +113,7 @@ pub extern "C" fn store_read(note: &[u8]) -> NoteSaid
 }
 
 // The plan of lost block b.
-#[unsafe(no_mangle)]
-pub extern "C" fn store_plan(l: Layout, st: Standing, b: usize) -> PlanSaid
+pub fn store_plan(l: Layout, st: Standing, b: usize) -> PlanSaid
     ensures { PlanSays l st b result }
 {
     let a = store::plan(l, st, b);
@@ -121,8 +121,7 @@ pub extern "C" fn store_plan(l: Layout, st: Standing, b: usize) -> PlanSaid
 }
 
 // Lays a difference into data block i from `off` on, and its multiples into the surviving redundant blocks.
-#[unsafe(no_mangle)]
-pub extern "C" fn store_correct(
+pub fn store_correct(
     l: Layout,
     st: Standing,
     stripe: &mut [u8],
@@ -138,14 +137,7 @@ pub extern "C" fn store_correct(
 }
 
 // Rebuilds a lost block into the spare; for a present one the spare is left alone.
-#[unsafe(no_mangle)]
-pub extern "C" fn store_fetch(
-    l: Layout,
-    st: Standing,
-    stripe: &[u8],
-    spare: &mut [u8],
-    b: usize,
-) -> u8
+pub fn store_fetch(l: Layout, st: Standing, stripe: &[u8], spare: &mut [u8], b: usize) -> u8
     ensures { FetchSays l st stripe.now spare.old b result spare.new }
 {
     let a = store::fetch(l, st, stripe, spare, b);
@@ -154,16 +146,14 @@ pub extern "C" fn store_fetch(
 }
 
 // Where the part stands that holds block b: in the stripe, or in the spare. Empty exactly where fetching would refuse.
-#[unsafe(no_mangle)]
-pub extern "C" fn store_view(l: Layout, st: Standing, stripe: &[u8], spare: &[u8], b: usize) -> Part
+pub fn store_view(l: Layout, st: Standing, stripe: &[u8], spare: &[u8], b: usize) -> Part
     ensures { ViewSays l st stripe.entry spare.entry b result }
 {
     stripe::part_by(l, st, stripe.len(), spare.len(), b)
 }
 
 // What a layout costs, under two limits.
-#[unsafe(no_mangle)]
-pub extern "C" fn store_price(l: Layout, limits: Limits) -> PriceSaid
+pub fn store_price(l: Layout, limits: Limits) -> PriceSaid
     ensures { PriceSays l limits result }
 {
     let a = store::price(l, limits);
@@ -171,8 +161,7 @@ pub extern "C" fn store_price(l: Layout, limits: Limits) -> PriceSaid
 }
 
 // Writes every redundant block from the data as lent, leaves every data byte, and marks nothing lost.
-#[unsafe(no_mangle)]
-pub extern "C" fn store_encode(l: Layout, st: &mut Standing, stripe: &mut [u8]) -> Said
+pub fn store_encode(l: Layout, st: &mut Standing, stripe: &mut [u8]) -> Said
     ensures { Encode l st.old stripe.old result st.new stripe.new }
 {
     let a = store::encode_core(l, *st, stripe);
@@ -181,8 +170,7 @@ pub extern "C" fn store_encode(l: Layout, st: &mut Standing, stripe: &mut [u8]) 
 }
 
 // Marks block b lost.
-#[unsafe(no_mangle)]
-pub extern "C" fn store_lose(l: Layout, st: &mut Standing, b: usize) -> Said
+pub fn store_lose(l: Layout, st: &mut Standing, b: usize) -> Said
     ensures { Lose l st.old b result st.new }
 {
     let a = store::lose_core(l, *st, b);
@@ -191,8 +179,7 @@ pub extern "C" fn store_lose(l: Layout, st: &mut Standing, b: usize) -> Said
 }
 
 // Writes lost block b by its plan and clears its mark.
-#[unsafe(no_mangle)]
-pub extern "C" fn store_repair(l: Layout, st: &mut Standing, stripe: &mut [u8], b: usize) -> Said
+pub fn store_repair(l: Layout, st: &mut Standing, stripe: &mut [u8], b: usize) -> Said
     ensures { Repair l st.old stripe.old b result st.new stripe.new }
 {
     let a = store::repair_core(l, *st, stripe, b);
@@ -201,8 +188,7 @@ pub extern "C" fn store_repair(l: Layout, st: &mut Standing, stripe: &mut [u8], 
 }
 
 // Repairs every lost block, in rising order.
-#[unsafe(no_mangle)]
-pub extern "C" fn store_rebuild(l: Layout, st: &mut Standing, stripe: &mut [u8]) -> Said
+pub fn store_rebuild(l: Layout, st: &mut Standing, stripe: &mut [u8]) -> Said
     ensures { Rebuild l st.old stripe.old result st.new stripe.new }
 {
     let a = store::rebuild_core(l, *st, stripe);
