@@ -1,4 +1,6 @@
 // The program's input: where the note ends, and the length, the marks and the blocks that follow it.
+#![tactic(auto)]
+
 ghost use Rattle.std.specs.Prelude.{◌≡◌, ◌<◌, ◌≤◌, length};
 ghost use Rattle.note.specs.Note.{word, length_at};
 ghost use Rattle.given.specs.Given.{Tells};

@@ -1,4 +1,6 @@
 // The line of a lost block.
+#![tactic(auto)]
+
 ghost use Rattle.std.specs.Prelude.{◌+◌, ◌<◌, ◌≤◌, length};
 ghost use Rattle.text.specs.Put.{Room, Put};
 ghost use Rattle.loss.specs.Line.{plan_text, line_of};

@@ -1,4 +1,6 @@
 // The lines of the lost blocks.
+#![tactic(auto)]
+
 ghost use Rattle.std.specs.Prelude.{◌+◌, ◌*◌, ◌<◌, ◌≤◌, length};
 ghost use Rattle.losses.specs.Lines.{Lines};
 ghost use Rattle.losses.specs.Inner.{Written, Goes};

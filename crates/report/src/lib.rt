@@ -1,4 +1,6 @@
 // The report on a stripe: which blocks are lost, and the plan of each, as text.
+#![tactic(auto)]
+
 ghost use Rattle.std.specs.Prelude.{◌≤◌, length};
 ghost use Rattle.given.specs.Given.{Given};
 ghost use Rattle.losses.specs.Inner.{Written};

@@ -1,4 +1,6 @@
 // Text, put into a buffer at a place; each function answers where it ends. The caller sees to the room.
+#![tactic(auto)]
+
 ghost use Rattle.std.specs.Prelude.{[], ◌∷◌, ◌<◌, ◌≤◌, length};
 ghost use Rattle.text.specs.Text.{decimal, numbered_text, refused_text, layout_text, item_text, items_text};
 ghost use Rattle.text.specs.Put.{Room, Put};
