@@ -2,11 +2,11 @@
 use groups::{Group, Layout};
 
 fn up(x: usize) -> usize {
-    std::num::wrapping_add_usize(x, 1)
+    x.wrapping_add(1)
 }
 
 fn up_byte(x: u8) -> u8 {
-    std::num::wrapping_add_u8(x, 1)
+    x.wrapping_add(1)
 }
 
 // A group with field j altered.

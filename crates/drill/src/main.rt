@@ -17,19 +17,23 @@
 //   C u64 storage, u64 reads  price; a limit is the f64 of these 64 bits
 //   T                 writes the state
 // A letter that is none of these, a command that the script ends inside, and a stripe or a spare that is too long end the run.
+#![tactic(auto)]
+
 mod altered;
 
 ghost use Rattle.std.specs.Prelude.{◌≡◌, ◌≤◌, length};
 ghost use Rattle.drill.specs.Room.{Room, Same};
 
 use groups::Layout;
-use libc::STDIN_FILENO;
-use lines::{fields, notes, show};
+use lines::show::Output;
+use lines::{fields, notes, show, source};
 use plan::Standing;
 use script::{calling, commands};
+use std::io;
+use std::io::Write;
 
 // What is kept from command to command, with the number of bytes that are in use of the buffer for the stripe and of that for the spare.
-#[derive(Drop)]
+#[derive(Clone, Copy)]
 struct Kept {
     layout: Layout,
     standing: Standing,
@@ -37,22 +41,28 @@ struct Kept {
     spare: usize,
 }
 
-fn alter(f: u8, l: Layout) -> Layout {
-    show::count(b"alter ", fields::wide(f));
-    show::end();
+fn alter<W: Write>(to: &mut Output<W>, f: u8, l: Layout) -> Layout {
+    show::count(to, b"alter ", fields::wide(f));
+    show::end(to);
     altered::field(l, f)
 }
 
 // The layout that a note or an alteration leaves.
-fn lay_out(letter: u8, command: &[u8], l: Layout) -> Layout {
+fn lay_out<W: Write>(to: &mut Output<W>, letter: u8, command: &[u8], l: Layout) -> Layout {
     if letter == b'N' {
-        return notes::read(fields::from(command, 3), l, b"note k ", b"note refused ");
+        return notes::read(
+            to,
+            fields::from(command, 3),
+            l,
+            b"note k ",
+            b"note refused ",
+        );
     }
-    alter(fields::at(command, 1), l)
+    alter(to, fields::at(command, 1), l)
 }
 
 // The commands that touch no buffer.
-fn set(kind: u8, command: &[u8], s: Kept) -> Kept
+fn set<W: Write>(to: &mut Output<W>, kind: u8, command: &[u8], s: Kept) -> Kept
     ensures { Same s result }
 {
     let letter = fields::at(command, 0);
@@ -61,11 +71,11 @@ fn set(kind: u8, command: &[u8], s: Kept) -> Kept
     let st = q.standing;
     match kind {
         1 => {
-            let given = lay_out(letter, command, l);
+            let given = lay_out(to, letter, command, l);
             q.layout = given;
         }
         _ => {
-            let after = calling::stand(letter, command, l, st);
+            let after = calling::stand(to, letter, command, l, st);
             q.standing = after;
         }
     }
@@ -88,17 +98,17 @@ fn lay(buf: &mut [u8], bytes: &[u8]) -> usize
 }
 
 // Sets a buffer's bytes and writes them.
-fn fill(words: &[u8], bytes: &[u8], buf: &mut [u8]) -> usize
+fn fill<W: Write>(to: &mut Output<W>, words: &[u8], bytes: &[u8], buf: &mut [u8]) -> usize
     ensures { result ≤ length buf.old }
 {
     let n = lay(buf, bytes);
-    show::text(words);
-    show::last(&buf[0..n]);
+    show::text(to, words);
+    show::last(to, &buf[0..n]);
     n
 }
 
 // The commands that may change the stripe.
-fn change(command: &[u8], s: Kept, stripe: &mut [u8]) -> Kept
+fn change<W: Write>(to: &mut Output<W>, command: &[u8], s: Kept, stripe: &mut [u8]) -> Kept
     requires { s.stripe ≤ length stripe.old }
     ensures { Same s result }
 {
@@ -106,35 +116,41 @@ fn change(command: &[u8], s: Kept, stripe: &mut [u8]) -> Kept
     let l = q.layout;
     let st = q.standing;
     let m = q.stripe;
-    let after = calling::change(command, l, st, &mut stripe[0..m]);
+    let after = calling::change(to, command, l, st, &mut stripe[0..m]);
     q.standing = after;
     q
 }
 
 // The commands that leave everything kept as it is, but for the spare's bytes.
-fn look(command: &[u8], s: Kept, stripe: &mut [u8], spare: &mut [u8])
+fn look<W: Write>(to: &mut Output<W>, command: &[u8], s: Kept, stripe: &mut [u8], spare: &mut [u8])
     requires { Room s stripe.old spare.old }
 {
     let l = s.layout;
     let st = s.standing;
     let m = s.stripe;
     let n = s.spare;
-    calling::look(command, l, st, &stripe[0..m], &mut spare[0..n]);
+    calling::look(to, command, l, st, &stripe[0..m], &mut spare[0..n]);
 }
 
 // Does a command, and hands on what is kept.
-fn ask(command: &[u8], s: Kept, stripe: &mut [u8], spare: &mut [u8]) -> Kept
+fn ask<W: Write>(
+    to: &mut Output<W>,
+    command: &[u8],
+    s: Kept,
+    stripe: &mut [u8],
+    spare: &mut [u8],
+) -> Kept
     requires { Room s stripe.old spare.old }
     ensures { Room result stripe.new spare.new }
 {
     let kind = commands::kind(fields::at(command, 0));
     let mut q = s;
     match kind {
-        1 | 2 => q = set(kind, command, s),
-        3 => q.stripe = fill(b"stripe", fields::from(command, 5), stripe),
-        4 => q.spare = fill(b"spare", fields::from(command, 3), spare),
-        5 => q = change(command, s, stripe),
-        _ => look(command, s, stripe, spare),
+        1 | 2 => q = set(to, kind, command, s),
+        3 => q.stripe = fill(to, b"stripe", fields::from(command, 5), stripe),
+        4 => q.spare = fill(to, b"spare", fields::from(command, 3), spare),
+        5 => q = change(to, command, s, stripe),
+        _ => look(to, command, s, stripe, spare),
     }
     q
 }
@@ -154,13 +170,13 @@ fn start() -> Kept
     }
 }
 
-fn damaged(at: usize) {
-    show::count(b"damaged at ", at as u64);
-    show::end();
+fn damaged<W: Write>(to: &mut Output<W>, at: usize) {
+    show::count(to, b"damaged at ", at as u64);
+    show::end(to);
 }
 
 // Does command after command, up to one that is damaged.
-fn each(s: &[u8]) {
+fn each<W: Write>(to: &mut Output<W>, s: &[u8]) {
     let mut stripe = [0u8; 49152];
     let mut spare = [0u8; 2048];
     let mut kept = start();
@@ -169,16 +185,18 @@ fn each(s: &[u8]) {
         let rest = &s[at..];
         let n = commands::size(rest);
         if n == 0 {
-            damaged(at);
+            damaged(to, at);
             return;
         }
-        kept = ask(&rest[0..n], kept, &mut stripe, &mut spare);
+        kept = ask(to, &rest[0..n], kept, &mut stripe, &mut spare);
         at += n;
     }
 }
 
-fn main() {
-    let mut buf = io::large_buffer();
-    let n = io::read_full(STDIN_FILENO, &mut buf);
-    each(&buf[..n]);
+fn main(rt: HostRuntime) -> io::Result<()> {
+    let mut buf = [0u8; 65536];
+    let n = source::read_full(&mut rt.stdin(), &mut buf)?;
+    let mut to = Output::new(io::writer(&rt));
+    each(&mut to, &buf[..n]);
+    to.finish()
 }

@@ -1,5 +1,7 @@
 // The limits and the figures of a price.
 use crate::show;
+use crate::show::Output;
+use std::io::Write;
 
 // The number of these 64 bits. Where its exponent is all ones and its fraction is not 0 it is a not-a-number.
 pub fn limit(bits: u64) -> f64 {
@@ -25,7 +27,7 @@ pub fn numerator(x: f64, k: u32) -> u64 {
 }
 
 // Words, and a figure as a fraction over k.
-pub fn fraction(words: &[u8], x: f64, k: u32) {
-    show::count(words, numerator(x, k));
-    show::count(b"/", k as u64);
+pub fn fraction<W: Write>(to: &mut Output<W>, words: &[u8], x: f64, k: u32) {
+    show::count(to, words, numerator(x, k));
+    show::count(to, b"/", k as u64);
 }

@@ -2,47 +2,73 @@
 ghost use Rattle.std.specs.Prelude.{◌≡◌, ◌≤◌, length};
 
 use crate::fields::wide;
-use libc::STDOUT_FILENO;
+use std::io;
+use std::io::Write;
 
-pub fn text(words: &[u8]) {
-    io::write_all(STDOUT_FILENO, words);
+// Where answers are written. The first write that fails is kept, and nothing is written behind it.
+#[derive(Drop)]
+pub struct Output<W> {
+    writer: W,
+    written: io::Result<()>,
+}
+
+impl<W: Write + Drop> Output<W> {
+    pub fn new(writer: W) -> Output<W> {
+        Output {
+            writer,
+            written: Ok(()),
+        }
+    }
+
+    // The failure that was kept, if there is one.
+    pub fn finish(self) -> io::Result<()> {
+        self.written
+    }
+}
+
+pub fn text<W: Write>(to: &mut Output<W>, words: &[u8]) {
+    if to.written.is_ok() {
+        to.written = to.writer.write_all(words);
+    }
 }
 
 // Words, and a number right behind them.
-pub fn count(words: &[u8], n: u64) {
-    text(words);
-    io::print_decimal(STDOUT_FILENO, n);
+pub fn count<W: Write>(to: &mut Output<W>, words: &[u8], n: u64) {
+    text(to, words);
+    if to.written.is_ok() {
+        to.written = write!(to.writer, "{n}");
+    }
 }
 
-pub fn number(n: u64) {
-    count(b" ", n);
+pub fn number<W: Write>(to: &mut Output<W>, n: u64) {
+    count(to, b" ", n);
 }
 
-pub fn end() {
-    text(b"\n");
+pub fn end<W: Write>(to: &mut Output<W>) {
+    text(to, b"\n");
 }
 
 // The first bytes as numbers, `most` of them.
-pub fn list(bytes: &[u8], most: usize) {
+pub fn list<W: Write>(to: &mut Output<W>, bytes: &[u8], most: usize) {
     let mut i: usize = 0;
     while i < bytes.len() {
         if i < most {
-            number(wide(bytes[i]));
+            number(to, wide(bytes[i]));
         }
         i += 1;
     }
 }
 
 // A plan's items: `reads` blocks, each with its coefficient.
-pub fn items(block: &[u8], coef: &[u8], reads: usize)
+pub fn items<W: Write>(to: &mut Output<W>, block: &[u8], coef: &[u8], reads: usize)
     requires block_len { length block.now ≡ 32 }
     requires coef_len { length coef.now ≡ 32 }
 {
     let mut i: usize = 0;
     while i < 32 {
         if i < reads {
-            number(wide(block[i]));
-            count(b"*", wide(coef[i]));
+            number(to, wide(block[i]));
+            count(to, b"*", wide(coef[i]));
         }
         i += 1;
     }
@@ -88,31 +114,31 @@ fn digits(bytes: &[u8], out: &mut [u8])
     }
 }
 
-fn hexadecimal(bytes: &[u8])
+fn hexadecimal<W: Write>(to: &mut Output<W>, bytes: &[u8])
     requires { length bytes.now ≤ 64 }
 {
     let mut out = [0u8; 128];
     digits(bytes, &mut out);
     let n = 2 * bytes.len();
-    text(&out[0..n]);
+    text(to, &out[0..n]);
 }
 
 // Bytes, or what stands for them, behind a space.
-pub fn bytes(bytes: &[u8]) {
+pub fn bytes<W: Write>(to: &mut Output<W>, bytes: &[u8]) {
     if bytes.len() == 0 {
-        text(b" -");
+        text(to, b" -");
         return;
     }
     if 64 < bytes.len() {
-        count(b" #", checksum(bytes));
+        count(to, b" #", checksum(bytes));
         return;
     }
-    text(b" ");
-    hexadecimal(bytes);
+    text(to, b" ");
+    hexadecimal(to, bytes);
 }
 
 // Bytes that end the line.
-pub fn last(part: &[u8]) {
-    bytes(part);
-    end();
+pub fn last<W: Write>(to: &mut Output<W>, part: &[u8]) {
+    bytes(to, part);
+    end(to);
 }

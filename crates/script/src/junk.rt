@@ -1,12 +1,14 @@
 // Junk in the place of lost blocks, so that a call that reads one is told apart.
 use lines::show;
+use lines::show::Output;
 use plan::Standing;
+use std::io::Write;
 
 // A byte of block b: with x added where the block is marked lost.
 fn junked(byte: u8, lost: u64, b: usize, x: u8) -> u8 {
     if b < 64 {
         if marks::holds(lost, b) {
-            return std::num::wrapping_add_u8(byte, x);
+            return byte.wrapping_add(x);
         }
     }
     byte
@@ -24,8 +26,8 @@ fn add(stripe: &mut [u8], len: usize, lost: u64, x: u8) {
     }
 }
 
-pub fn spoil(stripe: &mut [u8], st: Standing, x: u8) {
+pub fn spoil<W: Write>(to: &mut Output<W>, stripe: &mut [u8], st: Standing, x: u8) {
     add(stripe, st.len, st.lost, x);
-    show::text(b"junk");
-    show::last(stripe);
+    show::text(to, b"junk");
+    show::last(to, stripe);
 }

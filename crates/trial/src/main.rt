@@ -7,16 +7,20 @@
 //   P block marks  the block's plan at L = 1, as block*coefficient, or the refusal
 //   C storage reads  the price under two limits, each a number of quarters, FE for infinity, FF for not a number; figures in quarters
 //   V block marks  the survivors in the order in which the block's plan visits them; the bytes of the marks come lowest first
+#![tactic(auto)]
+
 ghost use Rattle.std.specs.Prelude.{◌≡◌, ◌≤◌, ◌<◌, length};
 ghost use Rattle.given.specs.Given.{Given};
 
 use groups::Layout;
-use libc::STDIN_FILENO;
 use lines::fields::{index, wide};
 use lines::figure::numerator;
-use lines::{fields, notes, show};
+use lines::show::Output;
+use lines::{fields, notes, show, source};
 use plan::{Answer, Standing};
 use price::{Limits, Price};
+use std::io;
+use std::io::Write;
 
 // The value of a hex digit in capitals; of anything else 0.
 fn digit(c: u8) -> u8
@@ -60,7 +64,7 @@ fn parse(line: &[u8], out: &mut [u8]) -> usize
 }
 
 // Writes the row of block b, the first k bytes of it.
-fn show_row(l: Layout, b: usize)
+fn show_row<W: Write>(to: &mut Output<W>, l: Layout, b: usize)
     requires { Given l }
 {
     if b > 47 {
@@ -70,68 +74,68 @@ fn show_row(l: Layout, b: usize)
     rows::matrix(l, &mut matrix);
     let from = b * 32;
     let end = from + 32;
-    show::list(&matrix[from..end], l.k);
-    show::end();
+    show::list(to, &matrix[from..end], l.k);
+    show::end(to);
 }
 
-fn ask_row(l: Layout, b: u8)
+fn ask_row<W: Write>(to: &mut Output<W>, l: Layout, b: u8)
     requires { Given l }
 {
-    show::count(b"row ", wide(b));
-    show_row(l, index(b));
+    show::count(to, b"row ", wide(b));
+    show_row(to, l, index(b));
 }
 
-fn ask_home(l: Layout, b: u8)
+fn ask_home<W: Write>(to: &mut Output<W>, l: Layout, b: u8)
     requires { Given l }
 {
     let g = rows::home_of(l, index(b));
-    show::count(b"home ", wide(b));
-    show::count(b" group ", g as u64);
-    show::end();
+    show::count(to, b"home ", wide(b));
+    show::count(to, b" group ", g as u64);
+    show::end(to);
 }
 
-fn ask_visits(l: Layout, b: u8, lost: u64)
+fn ask_visits<W: Write>(to: &mut Output<W>, l: Layout, b: u8, lost: u64)
     requires { Given l }
 {
     let v = visits::visit(l, lost, index(b));
     let count = v.count;
     let blocks = v.blocks;
-    show::count(b"visits of ", wide(b));
-    show::list(&blocks, count);
-    show::end();
+    show::count(to, b"visits of ", wide(b));
+    show::list(to, &blocks, count);
+    show::end(to);
 }
 
 // The row, the home or the visits of a block.
-fn ask_known(letter: u8, l: Layout, b: u8, lost: u64)
+fn ask_known<W: Write>(to: &mut Output<W>, letter: u8, l: Layout, b: u8, lost: u64)
     requires { Given l }
 {
     match letter {
-        b'R' => ask_row(l, b),
-        b'H' => ask_home(l, b),
-        _ => ask_visits(l, b, lost),
+        b'R' => ask_row(to, l, b),
+        b'H' => ask_home(to, l, b),
+        _ => ask_visits(to, l, b, lost),
     }
 }
 
 // The questions that only a layout of a note has an answer to.
-fn ask_block(letter: u8, l: Layout, b: u8, lost: u64) {
+fn ask_block<W: Write>(to: &mut Output<W>, letter: u8, l: Layout, b: u8, lost: u64) {
     if given::known(l) {
-        ask_known(letter, l, b, lost);
+        ask_known(to, letter, l, b, lost);
     }
 }
 
-fn ask_plan(l: Layout, b: u8, lost: u64) {
+fn ask_plan<W: Write>(to: &mut Output<W>, l: Layout, b: u8, lost: u64) {
     let st = Standing { len: 1, lost: lost };
     let r = plan::plan_of(l, st, index(b));
     let answer = r.answer;
     let p = r.plan;
     let block = p.block;
     let coef = p.coef;
-    show::count(b"plan of ", wide(b));
+    show::count(to, b"plan of ", wide(b));
     match answer {
-        Answer::Done => show::items(&block, &coef, p.reads),
-        Answer::Refused(m) => show::count(b" refused ", wide(m)),
+        Answer::Done => show::items(to, &block, &coef, p.reads),
+        Answer::Refused(m) => show::count(to, b" refused ", wide(m)),
     }
-    show::end();
+    show::end(to);
 }
 
 // A limit of q quarters, an infinity or not a number.
@@ -146,11 +150,11 @@ fn limit(q: u8) -> f64 {
 }
 
 // Words, and a figure's number of quarters.
-fn quarters(words: &[u8], x: f64) {
-    show::count(words, numerator(x, 4));
+fn quarters<W: Write>(to: &mut Output<W>, words: &[u8], x: f64) {
+    show::count(to, words, numerator(x, 4));
 }
 
-fn ask_price(l: Layout, s: u8, r: u8) {
+fn ask_price<W: Write>(to: &mut Output<W>, l: Layout, s: u8, r: u8) {
     let limits = Limits {
         storage: limit(s),
         reads: limit(r),
@@ -158,51 +162,51 @@ fn ask_price(l: Layout, s: u8, r: u8) {
     let answer = price::price_of(l, limits);
     match answer {
         Price::Fits { storage, reads } => {
-            quarters(b"fits, storage ", storage);
-            quarters(b" reads ", reads);
+            quarters(to, b"fits, storage ", storage);
+            quarters(to, b" reads ", reads);
         }
-        Price::TooLarge(storage) => quarters(b"too large, storage ", storage),
-        Price::TooManyReads(reads) => quarters(b"too many reads, ", reads),
-        Price::Refused(m) => show::count(b"refused ", wide(m)),
+        Price::TooLarge(storage) => quarters(to, b"too large, storage ", storage),
+        Price::TooManyReads(reads) => quarters(to, b"too many reads, ", reads),
+        Price::Refused(m) => show::count(to, b"refused ", wide(m)),
     }
-    show::end();
+    show::end(to);
 }
 
 // The questions that leave the layout as it is; the marks stand behind the block.
-fn ask_about(letter: u8, bytes: &[u8], l: Layout) {
+fn ask_about<W: Write>(to: &mut Output<W>, letter: u8, bytes: &[u8], l: Layout) {
     let b = fields::at(bytes, 0);
     let lost = fields::word(bytes, 1);
     match letter {
-        b'R' | b'H' | b'V' => ask_block(letter, l, b, lost),
-        b'P' => ask_plan(l, b, lost),
-        b'C' => ask_price(l, b, fields::at(bytes, 1)),
-        _ => show::text(b"no such question\n"),
+        b'R' | b'H' | b'V' => ask_block(to, letter, l, b, lost),
+        b'P' => ask_plan(to, l, b, lost),
+        b'C' => ask_price(to, l, b, fields::at(bytes, 1)),
+        _ => show::text(to, b"no such question\n"),
     }
 }
 
 // Asks with the bytes of a line, and answers the layout to go on with.
-fn ask_with(letter: u8, bytes: &[u8], l: Layout) -> Layout {
+fn ask_with<W: Write>(to: &mut Output<W>, letter: u8, bytes: &[u8], l: Layout) -> Layout {
     if letter == b'N' {
-        return notes::read(bytes, l, b"accepted k ", b"refused ");
+        return notes::read(to, bytes, l, b"accepted k ", b"refused ");
     }
-    ask_about(letter, bytes, l);
+    ask_about(to, letter, bytes, l);
     l
 }
 
 // A line's answer, and the layout to go on with.
-fn ask(line: &[u8], l: Layout) -> Layout {
+fn ask<W: Write>(to: &mut Output<W>, line: &[u8], l: Layout) -> Layout {
     let letter = fields::at(line, 0);
     if line.len() == 0 {
         return l;
     }
     if letter == b'#' {
-        show::text(line);
-        show::end();
+        show::text(to, line);
+        show::end(to);
         return l;
     }
     let mut space = [0u8; 128];
     let n = parse(line, &mut space);
-    ask_with(letter, &space[0..n], l)
+    ask_with(to, letter, &space[0..n], l)
 }
 
 // Where the line that starts at `at` ends.
@@ -221,19 +225,21 @@ fn end_of_line(s: &[u8], at: usize) -> usize
 }
 
 // Asks line after line; a last line that is not ended by a newline is asked too.
-fn each(s: &[u8]) {
+fn each<W: Write>(to: &mut Output<W>, s: &[u8]) {
     let r = note::read_note(&s[..0]);
     let mut l = r.layout;
     let mut at: usize = 0;
     while at < s.len() {
         let end = end_of_line(s, at);
-        l = ask(&s[at..end], l);
+        l = ask(to, &s[at..end], l);
         at = end + 1;
     }
 }
 
-fn main() {
-    let mut buf = io::large_buffer();
-    let n = io::read_full(STDIN_FILENO, &mut buf);
-    each(&buf[..n]);
+fn main(rt: HostRuntime) -> io::Result<()> {
+    let mut buf = [0u8; 65536];
+    let n = source::read_full(&mut rt.stdin(), &mut buf)?;
+    let mut to = Output::new(io::writer(&rt));
+    each(&mut to, &buf[..n]);
+    to.finish()
 }

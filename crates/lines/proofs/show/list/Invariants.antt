@@ -1,0 +1,10 @@
+-- Proved: `list` is safe and ends: the place is in the bytes.
+use Prim.Native.Nat.{◌≤◌, ◌-◌}
+use lib.ListN.{length}
+use Rattle.lines.proofs.show.list.Given as goal
+
+abbrev pub invariant-loop-i : goal.invariant-loop-i
+invariant-loop-i g l = l.i ≤ length l.bytes
+
+abbrev pub decreases-loop-i : goal.decreases-loop-i
+decreases-loop-i g l = length l.bytes - l.i
