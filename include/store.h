@@ -1,4 +1,4 @@
-// Hrnkovida's block store, for C11 and C++11 on x86-64 Linux. The functions stand in target/staticlib/libbridge.a, which `rt staticlib bridge` proves
+// Hrnkovida's block store, for C11 and C++11 on x86-64 Linux. The functions stand in target/staticlib/libbridge.a, which `.ci/archive` proves
 // and writes; what each answers, and what it leaves of everything lent, is proved for every input. "Document 01" is the store's definition.
 //
 // A stripe holds n blocks of L bytes one after another: k data blocks, numbered from 0, then the redundant blocks, from k to n - 1. A layout note

@@ -9,8 +9,8 @@ fn variable(name: &str) -> String {
     env::var(name).unwrap_or_default()
 }
 
-/// Where the archive is: the directory of the environment's choice, or the one that `rt staticlib
-/// bridge` writes to.
+/// Where the archive is: the directory of the environment's choice, or the one that `.ci/archive`
+/// writes to.
 fn directory() -> PathBuf {
     match env::var_os("HRNKOVIDA_ARCHIVE_DIR") {
         Some(chosen) => PathBuf::from(chosen),
@@ -24,7 +24,7 @@ fn link() {
     println!("cargo::rerun-if-changed={}", archive.display());
     if !archive.is_file() {
         println!(
-            "cargo::error=the store's archive is not at {}: run `rt staticlib bridge` at the top \
+            "cargo::error=the store's archive is not at {}: run `.ci/archive` at the top \
              of the repository, or set HRNKOVIDA_ARCHIVE_DIR to the directory that holds {ARCHIVE}",
             archive.display()
         );
