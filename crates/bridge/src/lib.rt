@@ -6,11 +6,13 @@ ghost use Rattle.store.specs.Store.{Encode, Lose, Repair, Rebuild};
 ghost use Rattle.std.specs.Prelude.{◌≡◌};
 
 use groups::Layout;
-use note::Reading;
-use plan::{Plan, Planned, Standing};
+use note::Refused;
+use plan::{Plan, Refusal, Standing};
 use price::{Limits, Price};
 use store::Said;
 use stripe::Part;
+
+// Stays: here and in the two structs below a number tells the case, since the C interface has them so (include/store.h).
 
 // What reading a note says: 0 and the layout; or the refusal's number, the offset of the record at fault, and the blank layout.
 #[repr(C)]
@@ -40,67 +42,71 @@ pub struct PriceSaid {
 }
 
 // A reading in numbers.
-fn note_numbers(a: Reading) -> NoteSaid
-    ensures { result ≡ note_numbers a }
-{
-    let layout = a.layout;
-    let answer = a.answer;
-    match answer {
-        note::Answer::Accepted => NoteSaid {
-            number: 0,
-            offset: 0,
-            layout: layout,
-        },
-        note::Answer::Refused { number, offset } => NoteSaid {
-            number: number,
-            offset: offset,
-            layout: layout,
-        },
+impl From<Result<Layout, Refused>> for NoteSaid {
+    ghost from_gives = { λ r s. s ≡ note_numbers r };
+
+    fn from(r: Result<Layout, Refused>) -> NoteSaid {
+        match r {
+            Ok(layout) => NoteSaid {
+                number: 0,
+                offset: 0,
+                layout,
+            },
+            Err(e) => NoteSaid {
+                number: e.fault.number(),
+                offset: e.offset,
+                layout: groups::empty(),
+            },
+        }
     }
 }
 
 // A plan in numbers.
-fn plan_numbers(a: Planned) -> PlanSaid
-    ensures { result ≡ plan_numbers a }
-{
-    let answer = a.answer;
-    let s = store::say(answer);
-    let plan = a.plan;
-    PlanSaid {
-        number: s.number,
-        plan: plan,
+impl From<Result<Plan, Refusal>> for PlanSaid {
+    ghost from_gives = { λ r s. s ≡ plan_numbers r };
+
+    fn from(r: Result<Plan, Refusal>) -> PlanSaid {
+        match r {
+            Ok(plan) => PlanSaid { number: 0, plan },
+            Err(e) => PlanSaid {
+                number: e.number(),
+                plan: Plan::none(),
+            },
+        }
     }
 }
 
 // A price in numbers.
-fn price_numbers(a: Price) -> PriceSaid
-    ensures { result ≡ price_numbers a }
-{
-    match a {
-        Price::Fits { storage, reads } => PriceSaid {
-            verdict: 0,
-            number: 0,
-            storage: storage,
-            reads: reads,
-        },
-        Price::TooLarge(storage) => PriceSaid {
-            verdict: 1,
-            number: 0,
-            storage: storage,
-            reads: 0.0,
-        },
-        Price::TooManyReads(reads) => PriceSaid {
-            verdict: 2,
-            number: 0,
-            storage: 0.0,
-            reads: reads,
-        },
-        Price::Refused(number) => PriceSaid {
-            verdict: 3,
-            number: number,
-            storage: 0.0,
-            reads: 0.0,
-        },
+impl From<Result<Price, Refusal>> for PriceSaid {
+    ghost from_gives = { λ r s. s ≡ price_numbers r };
+
+    fn from(r: Result<Price, Refusal>) -> PriceSaid {
+        match r {
+            Ok(Price::Fits { storage, reads }) => PriceSaid {
+                verdict: 0,
+                number: 0,
+                storage,
+                reads,
+            },
+            Ok(Price::TooLarge(storage)) => PriceSaid {
+                verdict: 1,
+                number: 0,
+                storage,
+                reads: 0.0,
+            },
+            Ok(Price::TooManyReads(reads)) => PriceSaid {
+                verdict: 2,
+                number: 0,
+                storage: 0.0,
+                reads,
+            },
+            Err(e) => PriceSaid {
+                verdict: 3,
+                number: e.number(),
+                storage: 0.0,
+                reads: 0.0,
+            },
+        }
     }
 }
 
@@ -108,16 +114,14 @@ fn price_numbers(a: Price) -> PriceSaid
 pub fn store_read(note: &[u8]) -> NoteSaid
     ensures { ReadSays note.now result }
 {
-    let a = store::read(note);
-    note_numbers(a)
+    NoteSaid::from(store::read(note))
 }
 
 // The plan of lost block b.
 pub fn store_plan(l: Layout, st: Standing, b: usize) -> PlanSaid
     ensures { PlanSays l st b result }
 {
-    let a = store::plan(l, st, b);
-    plan_numbers(a)
+    PlanSaid::from(store::plan(l, st, b))
 }
 
 // Lays a difference into data block i from `off` on, and its multiples into the surviving redundant blocks.
@@ -131,18 +135,14 @@ pub fn store_correct(
 ) -> u8
     ensures { CorrectSays l st stripe.old i off diff.now result stripe.new }
 {
-    let a = store::correct(l, st, stripe, i, off, diff);
-    let s = store::say(a);
-    s.number
+    Said::from(store::correct(l, st, stripe, i, off, diff)).number
 }
 
 // Rebuilds a lost block into the spare; for a present one the spare is left alone.
 pub fn store_fetch(l: Layout, st: Standing, stripe: &[u8], spare: &mut [u8], b: usize) -> u8
     ensures { FetchSays l st stripe.now spare.old b result spare.new }
 {
-    let a = store::fetch(l, st, stripe, spare, b);
-    let s = store::say(a);
-    s.number
+    Said::from(store::fetch(l, st, stripe, spare, b)).number
 }
 
 // Where the part stands that holds block b: in the stripe, or in the spare. Empty exactly where fetching would refuse.
@@ -156,42 +156,33 @@ pub fn store_view(l: Layout, st: Standing, stripe: &[u8], spare: &[u8], b: usize
 pub fn store_price(l: Layout, limits: Limits) -> PriceSaid
     ensures { PriceSays l limits result }
 {
-    let a = store::price(l, limits);
-    price_numbers(a)
+    PriceSaid::from(store::price(l, limits))
 }
 
 // Writes every redundant block from the data as lent, leaves every data byte, and marks nothing lost.
 pub fn store_encode(l: Layout, st: &mut Standing, stripe: &mut [u8]) -> Said
     ensures { Encode l st.old stripe.old result st.new stripe.new }
 {
-    let a = store::encode_core(l, *st, stripe);
-    *st = a.standing;
-    a.said
+    Said::from(store::encode(l, st, stripe))
 }
 
 // Marks block b lost.
 pub fn store_lose(l: Layout, st: &mut Standing, b: usize) -> Said
     ensures { Lose l st.old b result st.new }
 {
-    let a = store::lose_core(l, *st, b);
-    *st = a.standing;
-    a.said
+    Said::from(store::lose(l, st, b))
 }
 
 // Writes lost block b by its plan and clears its mark.
 pub fn store_repair(l: Layout, st: &mut Standing, stripe: &mut [u8], b: usize) -> Said
     ensures { Repair l st.old stripe.old b result st.new stripe.new }
 {
-    let a = store::repair_core(l, *st, stripe, b);
-    *st = a.standing;
-    a.said
+    Said::from(store::repair(l, st, stripe, b))
 }
 
 // Repairs every lost block, in rising order.
 pub fn store_rebuild(l: Layout, st: &mut Standing, stripe: &mut [u8]) -> Said
     ensures { Rebuild l st.old stripe.old result st.new stripe.new }
 {
-    let a = store::rebuild_core(l, *st, stripe);
-    *st = a.standing;
-    a.said
+    Said::from(store::rebuild(l, st, stripe))
 }

@@ -1,5 +1,5 @@
 // The exports of the calls, for C and Rust (include/store.h): each symbol is the call of `bridge` of the same name, and promises what that promises. A crate is a
-// library or a static library and not both, so the exports have one of their own.
+// library or a static library and not both, so the exports have one of their own. Stays: each call stands here again, as the C interface has it.
 #![tactic(auto)]
 
 ghost use Rattle.bridge.specs.Exports.{ReadSays, PlanSays, CorrectSays, FetchSays, ViewSays, PriceSays};

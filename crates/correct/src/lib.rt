@@ -5,20 +5,15 @@ ghost use Rattle.std.specs.Prelude.{◌+◌, ◌≤◌};
 ghost use Rattle.given.specs.Given.{Tells};
 ghost use Rattle.correct.specs.Corrects.{Corrects};
 
+use corrections::Correction;
 use groups::Layout;
-use plan::{Answer, Standing};
+use plan::{Refusal, Standing};
 
-// Whether m bytes from off on stay below len. No sum is made, so none wraps.
+// Whether m bytes from off on stay below len. A sum that would wrap is none.
 fn stays(off: usize, m: usize, len: usize) -> bool
     ensures { Tells result (off + m ≤ len) }
 {
-    if len < m {
-        return false;
-    }
-    if len - m < off {
-        return false;
-    }
-    true
+    off.checked_add(m).is_some_and(|end| end <= len)
 }
 
 // Lays a difference into data block i at an offset, and its multiples into the surviving redundant blocks.
@@ -29,27 +24,32 @@ pub fn correct_by(
     i: usize,
     off: usize,
     diff: &[u8],
-) -> Answer
+) -> Result<(), Refusal>
     ensures { Corrects l st i off diff.now stripe.old stripe.new result }
 {
-    let f = shape::front(l, st, stripe.len());
-    if f != 0 {
-        return Answer::Refused(f);
-    }
+    shape::front(l, st, stripe.len())?;
     if l.k <= i {
-        return Answer::Refused(9);
+        return Err(Refusal::Block);
     }
-    let lost = st.lost;
-    if marks::holds(lost, i) {
-        return Answer::Refused(11);
+    if marks::holds(st.lost, i) {
+        return Err(Refusal::Lost);
     }
-    let len = st.len;
-    if !stays(off, diff.len(), len) {
-        return Answer::Refused(12);
+    if !stays(off, diff.len(), st.len) {
+        return Err(Refusal::Range);
     }
     let n = l.k + l.r;
     let mut matrix = [0u8; 1536];
     rows::matrix(l, &mut matrix);
-    corrections::correct_all(&matrix, stripe, lost, l.k, n, len, i, off, diff);
-    Answer::Done
+    let correction = Correction {
+        diff,
+        i,
+        off,
+        rows: &matrix,
+        lost: st.lost,
+        k: l.k,
+        n,
+        len: st.len,
+    };
+    correction.correct_all(stripe);
+    Ok(())
 }

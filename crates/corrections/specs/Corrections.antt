@@ -5,6 +5,7 @@ use Rattle.field.specs.Field.{◌⊕◌, mul}
 use Rattle.linear.specs.Solved.{row_of}
 use Rattle.marks.specs.Marks.{marked}
 use Rattle.calls.specs.Calls.{byte_of, laid}
+use Rattle.corrections.specs.declared.Correction.{Correction}
 
 -- what `lay` leaves: c times the difference d is added from position at on
 pub record Laid (d : List ℕ) (c at : ℕ) (xs ys : List ℕ) : Type 0 where
@@ -45,3 +46,17 @@ pub record CorrectedList (rows : List ℕ) (lost len k n i off : ℕ) (d xs ys :
   pub present : (b x : ℕ) → k ≤ b → b < n → marked lost b ≡ false → x < len
       → byte_of len ys b x ≡ byte_of len xs b x ⊕ mul (row_of rows b i) (laid off d x)
   pub missing : (b x : ℕ) → k ≤ b → b < n → marked lost b ≡ true → x < len → byte_of len ys b x ≡ byte_of len xs b x
+
+-- ---- the same of a correction, by its fields
+
+abbrev pub Asks : Correction → List ℕ → Type 0
+Asks c xs = Correctable c.rows.now xs c.k c.n c.len c.i c.off c.diff.now
+
+abbrev pub Touches : Correction → ℕ → List ℕ → List ℕ → Type 0
+Touches c b xs ys = Touched c.rows.now c.lost c.len c.i c.off c.diff.now b xs ys
+
+abbrev pub Spreads : Correction → ℕ → List ℕ → List ℕ → Type 0
+Spreads c m xs ys = Spread c.rows.now c.lost c.len c.k c.i c.off c.diff.now m xs ys
+
+abbrev pub CorrectsAll : Correction → List ℕ → List ℕ → Type 0
+CorrectsAll c xs ys = CorrectedList c.rows.now c.lost c.len c.k c.n c.i c.off c.diff.now xs ys

@@ -1,21 +1,20 @@
 -- Proved: demand 3 of the store's own calls. In a sound state every run of them is a run of `calls`, and the state stays sound; an accepted encoding leaves
 -- a sound state, and an accepted rebuild ends as single repairs do.
 use mathlib.Core.Path.{◌≡◌, refl, sym, ap, ap₂, ◌∙◌, subst}
-use mathlib.Core.List.{List, [], ◌∷◌, ◌++◌, Perm}
-use mathlib.Core.Bool.{Bool, false}
-use Prim.Native.Nat.{ℕ, zero, suc, ◌+◌, ◌*◌, ◌<◌, ◌≤◌}
+use mathlib.Core.List.{List, ◌∷◌, ◌++◌, Perm}
+use mathlib.Core.Bool.{false}
+use Prim.Native.Nat.{ℕ, ◌+◌, ◌*◌, ◌<◌, ◌≤◌}
 use native.Mathlib.Omega.{arith}
 use lib.ListN.{length, get_or}
 use Rattle.groups.specs.declared.Layout.{Layout}
-use Rattle.given.specs.Given.{Given}
 use Rattle.marks.specs.Marks.{marked}
 use Rattle.rows.specs.Rows.{blocks}
 use Rattle.calls.specs.Code.{Code, Proper}
 use Rattle.calls.specs.Calls as Calls
-use Rattle.calls.specs.Calls.{Stripe, Call, encode, rebuild, ◌unless◌, by, done, refused, Verdict, Encoded, Outcome, Step}
+use Rattle.calls.specs.Calls.{Stripe, Call, encode, rebuild, done, refused, Encoded, Step}
 use Rattle.calls.specs.Demands.{Alike, Same, Comes, a_loss, a_repair, a_correction, Turn, Run, turn, calls, laid_in, Tidy, Settled, Agree, rising}
 use Rattle.calls.proofs.Needs.{undone, done_met}
-use Rattle.calls.proofs.Answers.{sound_step, done_step, repair_met, rebuild_refused}
+use Rattle.calls.proofs.Answers.{sound_step, done_step, repair_met}
 use Rattle.calls.proofs.Outcomes.{outcome_alike}
 use Rattle.calls.proofs.Rebuilds.{rebuild_run, repairs_below, alike_self, alike_trans}
 use Rattle.calls.proofs.Lists.{same_list}
@@ -23,21 +22,15 @@ use Rattle.calls.proofs.Runs as Abstract
 use Rattle.calls.proofs.Orders as Orders
 use Rattle.calls.proofs.Orders.{turn_path}
 use Rattle.plan.specs.declared.Standing.{Standing}
-use Rattle.plan.specs.declared.Answer.{Answer}
-use Rattle.plan.specs.declared.Answer.TheVariants.{Done, Refused}
-use Rattle.plan.specs.Codes.{code_of, InRange, front, Sound}
-use Rattle.plan.specs.Plans.{said, numbered}
+use Rattle.plan.specs.Codes.{code_of, InRange, Sound}
 use Rattle.plan.proofs.Codes.{code_proper}
 use Rattle.plan.proofs.Fronts.{sound_met}
-use Rattle.repairs.specs.declared.Rebuilding.{Rebuilding}
-use Rattle.repairs.specs.declared.Rebuilding.TheVariants.{Whole, Denied, NoPlan}
 use Rattle.shape.specs.Shapes.{Sized, stripe_of}
-use Rattle.repairs.specs.Repairs.{told}
 use Rattle.store.specs.declared.Said.{Said}
-use Rattle.store.specs.Answers.{spoken, named}
 use Rattle.store.specs.Store.{Encode, Rebuild}
 use Rattle.demands.specs.Runs.{Between, Runs, rest, loss, mend, amend, Small, Stands}
-use Rattle.demands.proofs.Outcomes.{standing_one}
+use Rattle.demands.proofs.Does.{encode_does, lose_does, repair_does, rebuild_does, does_done, lose_numbered, repair_numbered}
+use Rattle.demands.proofs.Outcomes.{Lent, standing_one, unmarked}
 
 -- ---- a sound state
 
@@ -61,32 +54,6 @@ module _ {l : Layout} {L : ℕ} {st : Standing} {xs : List ℕ} (s : Stands l L 
         len = e ∙ s.len;
         sound = record { given = s.sound.given; size = rw (e, w) s.sound.size; unmarked = λ b k. h b k ∙ s.sound.unmarked b k };
       }
-
--- ---- the number of an answer
-
-not_0 : {m : ℕ} → refused (by 0) ≡ refused (by (suc m)) → ⊥
-not_0 {m} e = let z : ◌≡◌ {A = ℕ} 0 (suc m) = cc in omega arith
-
--- no loss, repair or correction is refused by 0
-not_by_0 : {c : Code} {lost : ℕ → Bool} {q : Call} → Comes q → Verdict [] c lost q (refused (by 0)) → ⊥
-not_by_0 (a_loss b) v =
-    let x = done_met not_0 v.first in
-    undone _ (sym (done_met not_0 x.1).1)
-not_by_0 (a_repair b) v =
-    let x = done_met not_0 v.first in
-    let y = done_met not_0 x.1 in
-    undone _ (sym (done_met not_0 y.1).1)
-not_by_0 (a_correction i off d) v =
-    let x = done_met not_0 v.first in
-    let y = done_met not_0 x.1 in
-    undone _ (sym (done_met not_0 y.1).1)
-
--- so the number that the store says is the answer
-number_said : {c : Code} {lost : ℕ → Bool} {q : Call} {r : Said} → Comes q → (a : Answer) → Verdict [] c lost q (said a) → r ≡ spoken a
-    → numbered r.number ≡ said a
-number_said n Done v e = ap (λ (r : Said). numbered r.number) e
-number_said n (Refused zero) v e = absurd (not_by_0 n v)
-number_said n (Refused (suc m)) v e = ap (λ (r : Said). numbered r.number) e
 
 -- ---- runs of the store are runs of `calls`
 
@@ -117,11 +84,13 @@ module _ {l : Layout} {L : ℕ} where
   pub passage : {st u : Standing} {xs zs : List ℕ} {gs : List Turn} → Stands l L st xs → Runs l st xs gs u zs → Passage l L st xs gs u zs
   passage s (rest B) = let x = between s B in record { stands = x.0; run = Run.rest x.1 }
   passage s (loss {ys = ys} {b = b} B h R) =
-      let S = (sound_step (sound_met (range_sound s.sound))).0 (h.does.outcome ys) in
-      onward s B (a_loss b) (rw (number_said (a_loss b) h.answer S.verdict h.said) S) h.does.len refl (λ t. passage t R)
+      let d = (lose_does ys h).leaves in
+      let S = (sound_step (sound_met (range_sound s.sound))).0 d.outcome in
+      onward s B (a_loss b) (rw (lose_numbered ys h) S) d.len refl (λ t. passage t R)
   passage s (mend {b = b} B h R) =
-      let S = (sound_step (sound_met (between s B).0.sound)).0 h.does.outcome in
-      onward s B (a_repair b) (rw (number_said (a_repair b) h.answer S.verdict h.said) S) h.does.len h.does.long (λ t. passage t R)
+      let d = (repair_does h).leaves in
+      let S = (sound_step (sound_met (between s B).0.sound)).0 d.outcome in
+      onward s B (a_repair b) (rw (repair_numbered h) S) d.len d.long (λ t. passage t R)
   passage s (amend {i = i} {off = off} {d = d} B h R) =
       let S = (sound_step (sound_met (between s B).0.sound)).0 h.outcome in
       onward s B (a_correction i off d) S refl h.long (λ t. passage t R)
@@ -135,25 +104,18 @@ pub record Start (l : Layout) (L : ℕ) (st : Standing) (xs : List ℕ) (u : Sta
 
 -- AN ACCEPTED ENCODING LEAVES A SOUND STATE
 pub start : {l : Layout} {st u : Standing} {xs ys : List ℕ} {r : Said} → Encode l st xs r u ys → r.number ≡ 0 → Start l st.len st xs u ys
-start {l} {st} {u} {xs} {ys} {r} E z = at E.answer E.does.outcome (ap (λ (r : Said). r.number) (sym E.said) ∙ z)
-  where
-    at : (a : Answer)
-        → Outcome ((by 6 unless Given l) ∷ (by 7 unless Sized l st.len (length xs)) ∷ []) (code_of l st.len) (stripe_of st xs) encode (said a) (stripe_of u ys)
-        → (spoken a).number ≡ 0 → Start l st.len st xs u ys
-    at Done O e =
-        let x = done_met (undone _) O.verdict.first in
-        let y = done_met (undone _) x.1 in
-        record {
-          stands = record {
-            len = E.does.len;
-            sound = record { given = x.0; size = rw (E.does.len, E.does.long) y.0; unmarked = λ b k. O.effect.marks b };
-          };
-          encoded = O.effect;
-        }
-    at (Refused zero) O e =
-        let x = done_met not_0 O.verdict.first in
-        absurd (undone _ (sym (done_met not_0 x.1).1))
-    at (Refused (suc m)) O e = absurd (omega arith)
+start E z =
+    let d = (encode_does E).leaves in
+    let O = does_done (encode_does E) z in
+    let x = done_met (undone _) O.verdict.first in
+    let y = done_met (undone _) x.1 in
+    record {
+      stands = record {
+        len = d.len;
+        sound = record { given = x.0; size = rw (d.len, d.long) y.0; unmarked = λ b k. O.effect.marks b };
+      };
+      encoded = O.effect;
+    }
 
 -- ---- DEMAND 3
 
@@ -209,16 +171,16 @@ module _ {c : Code} where
   alike_both A B B' = alike_trans c (alike_sym B) (alike_trans c A B')
 
 not_encode : {q : Call} → Comes q → q ≡ encode → ⊥
-not_encode (a_loss b) e = let z : ◌≡◌ {A = ℕ} 0 1 = cc in omega arith
-not_encode (a_repair b) e = let z : ◌≡◌ {A = ℕ} 0 1 = cc in omega arith
-not_encode (a_correction i off d) e = let z : ◌≡◌ {A = ℕ} 0 1 = cc in omega arith
+not_encode (a_loss b) e = cc
+not_encode (a_repair b) e = cc
+not_encode (a_correction i off d) e = cc
 
 -- the same answers, and stripes that are alike again
 pub run_alike : (c : Code) → Proper c → {s s' t t' : Stripe} {gs gs' : List Turn} → Alike c s s' → Run c s gs t → Run c s' gs' t' → calls gs ≡ calls gs'
     → (gs ≡ gs') × Alike c t t'
 run_alike c p A (Run.rest B) (Run.rest B') e = (refl, alike_both A B B')
-run_alike c p A (Run.rest B) (turn B' n' S' R') e = let z : ◌≡◌ {A = ℕ} 0 1 = cc in absurd (omega arith)
-run_alike c p A (turn B n S R) (Run.rest B') e = let z : ◌≡◌ {A = ℕ} 0 1 = cc in absurd (omega arith)
+run_alike c p A (Run.rest B) (turn B' n' S' R') e = cc
+run_alike c p A (turn B n S R) (Run.rest B') e = cc
 run_alike c p A (turn {t = t} {g = g} {gs = gs} B n S R) (turn {r = r'} {t = t'} {g = g'} {gs = gs'} B' n' S' R') e =
     let same : g.call ≡ g'.call = cc in
     let more : calls gs ≡ calls gs' = cc in
@@ -235,36 +197,26 @@ pub record Rebuilds (l : Layout) (L : ℕ) (st : Standing) (xs : List ℕ) (u : 
   pub step : Step (code_of l L) (stripe_of st xs) rebuild done (stripe_of u ys)
 
 pub rebuilt : {l : Layout} {st u : Standing} {xs ys : List ℕ} {r : Said} → Rebuild l st xs r u ys → r.number ≡ 0 → Rebuilds l st.len st xs u ys
-rebuilt {l} {st} {u} {xs} {ys} {r} R z = at R.answer R.does.outcome (ap (λ (r : Said). r.number) (sym R.said) ∙ z)
-  where
-    at : (a : Rebuilding)
-        → Outcome (front l st (Sized l st.len (length xs))) (code_of l st.len) (stripe_of st xs) rebuild (told a) (stripe_of u ys)
-        → (named a).number ≡ 0 → Rebuilds l st.len st xs u ys
-    at Whole O e =
-        let x = done_met (undone _) O.verdict.first in
-        let y = done_met (undone _) x.1 in
-        let w = done_met (undone _) y.1 in
-        record {
-          stands = record { len = refl; sound = record { given = x.0; size = y.0; unmarked = w.0 } };
-          step = done_step O;
-        }
-    at (Denied zero) O e =
-        let x = done_met not_0 O.verdict.first in
-        let y = done_met not_0 x.1 in
-        let w = done_met not_0 y.1 in
-        let f = (rebuild_refused (code_of l st.len) (marked st.lost) (record { first = w.1 })).1 in
-        let z : ◌≡◌ {A = ℕ} 0 1 = cc in
-        absurd (omega arith)
-    at (Denied (suc m)) O e = absurd (omega arith)
-    at (NoPlan b) O e = absurd (omega arith)
+rebuilt R z =
+    let O = does_done (rebuild_does R) z in
+    let x = done_met (undone _) O.verdict.first in
+    let y = done_met (undone _) x.1 in
+    let w = done_met (undone _) y.1 in
+    record {
+      stands = record { len = refl; sound = record { given = x.0; size = y.0; unmarked = w.0 } };
+      step = done_step O;
+    }
 
 -- "It stands outside demand 3's lists; an accepted one ends as single repairs of every lost block, in rising block order, would": such repairs, as calls of
 -- the store, are all accepted, and leave the same standing and the same bytes
 pub demand_3_rebuild : {l : Layout} {st st' v : Standing} {xs ys zs : List ℕ} {r : Said} {gs : List Turn} → Rebuild l st xs r st' ys → r.number ≡ 0
     → Runs l st xs gs v zs → calls gs ≡ calls (rising (marked st.lost) (blocks l))
     → (gs ≡ rising (marked st.lost) (blocks l)) × (v ≡ st') × (zs ≡ ys)
-demand_3_rebuild {l} {st} {st'} {v} {xs} {ys} {zs} {gs = gs} R z G e = (sym both.0, sym (standing_one (P.stands.len ∙ sym R.does.len) both.1.marks), bytes)
+demand_3_rebuild {l} {st} {st'} {v} {xs} {ys} {zs} {gs = gs} R z G e = (sym both.0, sym (standing_one (P.stands.len ∙ sym d.len) both.1.marks), bytes)
   where
+    d : Lent l st xs (unmarked l st) rebuild (rebuild_does R).answer st' ys
+    d = (rebuild_does R).leaves
+
     W : Rebuilds l st.len st xs st' ys
     W = rebuilt R z
 
@@ -283,4 +235,4 @@ demand_3_rebuild {l} {st} {st'} {v} {xs} {ys} {zs} {gs = gs} R z G e = (sym both
     bytes =
         let size = W.stands.sound.size in
         let size' = P.stands.sound.size.whole in
-        same_list (code_of l st.len) ys zs size.range.least (R.does.long ∙ size.whole) (rw P.stands.len at size') (rw (R.does.len, P.stands.len) at same)
+        same_list (code_of l st.len) ys zs size.range.least (d.long ∙ size.whole) (rw P.stands.len at size') (rw (d.len, P.stands.len) at same)

@@ -8,23 +8,22 @@ use native.Mathlib.Omega.{arith}
 use native.Mathlib.Decide.{ℕ_discrete}
 use lib.Dec.{eqb, eqb→eq}
 use lib.ListN.{get_or, drop}
+use Rattle.std.specs.Prelude.{Result, Ok}
 use Rattle.field.specs.Field.{◌⊕◌, double, mul_bits, mul}
 use Rattle.field.proofs.Table.{below}
 use Rattle.linear.specs.Sums.{sum_to}
 use Rattle.linear.specs.Blocks.{dot}
-use Rattle.linear.proofs.Sets.{in_and_out}
 use Rattle.note.specs.Tree.{over, over_in, datas, layout_of}
 use Rattle.marks.proofs.Bits.{marked_zero}
 use Rattle.rows.specs.Rows.{blocks, row}
 use Rattle.calls.specs.Code.{enc}
 use Rattle.calls.specs.Calls.{laid}
-use Rattle.plan.specs.declared.Answer.{Answer}
-use Rattle.plan.specs.declared.Answer.TheVariants.{Done}
+use Rattle.plan.specs.declared.Refusal.{Refusal}
+use Rattle.plan.specs.declared.Standing.{Standing}
 use Rattle.plan.specs.Codes.{code_of}
 use Rattle.worked.specs.Depot.{depot, Asked, told, facts, stripe, corrected}
 use Rattle.worked.proofs.Rows.{depot_given, depot_blocks, depot_rows}
 use Rattle.worked.proofs.Answers.{in_range}
-use Rattle.shape.specs.declared.Stood.{Stood}
 use Rattle.shape.specs.Shapes.{Sized}
 use Rattle.stripe.specs.Stripes.{Encodes}
 use Rattle.correct.specs.Corrects.{Corrects}
@@ -77,7 +76,7 @@ module _ (lost p q s : ℕ) where
   data_kept j h = eqb→eq (get_or stripe j 0) (get_or lent j 0) (below (λ j. eqb (get_or stripe j 0) (get_or lent j 0)) 4 tt j h)
 
   -- the encoding that is accepted
-  encoding : Encodes depot (record { len = 1; lost = lost }) lent stripe (record { standing = record { len = 1; lost = 0 }; answer = Done })
+  encoding : Encodes depot (record { len = 1; lost = lost }) lent stripe (Ok (record { len = 1; lost = 0 }))
   encoding =
       record {
         outcome = record {
@@ -97,8 +96,8 @@ module _ (lost p q s : ℕ) where
       }
 
 -- "L = 1, data 1 2 3 4: stripe 1 2 3 4 57 98 153", whatever stood in the redundant blocks and whatever was marked lost
-pub depot_stripe : (lost p q s : ℕ) (ys : List ℕ) (r : Stood) → Encodes depot (record { len = 1; lost = lost }) (1 ∷ 2 ∷ 3 ∷ 4 ∷ p ∷ q ∷ s ∷ []) ys r
-    → (ys ≡ stripe) × (r ≡ record { standing = record { len = 1; lost = 0 }; answer = Done })
+pub depot_stripe : (lost p q s : ℕ) (ys : List ℕ) (r : Result Standing Refusal) → Encodes depot (record { len = 1; lost = lost }) (1 ∷ 2 ∷ 3 ∷ 4 ∷ p ∷ q ∷ s ∷ []) ys r
+    → (ys ≡ stripe) × (r ≡ Ok (record { len = 1; lost = 0 }))
 depot_stripe lost p q s ys r h = encodes_unique h (encoding lost p q s)
 
 -- ---- the correction
@@ -128,7 +127,7 @@ touched =
     (rw column.0 refl) (rw column.1 refl) (rw column.2 refl)
 
 -- the correction that is accepted
-correction : Corrects depot (record { len = 1; lost = 0 }) 0 0 (5 ∷ []) stripe corrected Done
+correction : Corrects depot (record { len = 1; lost = 0 }) 0 0 (5 ∷ []) stripe corrected (Ok tt)
 unfolding laid ◌⊕◌
 correction =
     record {
@@ -143,13 +142,13 @@ correction =
           others = λ b x h n k. others_kept (b * 1 + x) (λ e. n (omega arith)) (omega (arith, depot_blocks.0));
           redundant = λ b x low high o.
               only (λ x. get_or corrected (b * 1 + x) 0 ≡ get_or stripe (b * 1 + x) 0 ⊕ mul (row depot b 0) (laid 0 (5 ∷ []) x)) (touched b low high) x;
-          missing = λ b x low high o k. in_and_out o (marked_zero b);
+          missing = λ b x low high o k. cc (marked_zero b);
         };
       };
       long = refl;
     }
 
 -- "Difference 5 on block 0 of that stripe: 4 2 3 4 78 123 153"
-pub depot_corrected : (ys : List ℕ) (r : Answer) → Corrects depot (record { len = 1; lost = 0 }) 0 0 (5 ∷ []) stripe ys r
-    → (ys ≡ corrected) × (r ≡ Done)
+pub depot_corrected : (ys : List ℕ) (r : Result (Unit {0}) Refusal) → Corrects depot (record { len = 1; lost = 0 }) 0 0 (5 ∷ []) stripe ys r
+    → (ys ≡ corrected) × (r ≡ Ok tt)
 depot_corrected ys r h = corrects_unique h correction

@@ -1,4 +1,6 @@
+pub mod Answers
 pub mod Outcomes
+pub mod Does
 pub mod OneOutcome
 pub mod Exports
 pub mod Rows

@@ -5,9 +5,9 @@ use mathlib.Core.Bool.{Bool, true, false}
 use mathlib.Core.List.{List, [], ◌∷◌, ◌++◌}
 use mathlib.Core.Logic.{◌⊎◌, inl, inr}
 use Prim.Native.Nat.{ℕ, ◌≤◌}
-use native.Mathlib.Omega.{arith}
 use denote.Ref.{Bor}
 use lib.ListN.{length}
+use Rattle.std.specs.Prelude.{Result}
 use Rattle.groups.specs.declared.Layout.{Layout}
 use Rattle.given.specs.Given.{Given}
 use Rattle.marks.specs.Marks.{marked}
@@ -15,54 +15,27 @@ use Rattle.marks.proofs.Bits.{marked_unique}
 use Rattle.rows.specs.Rows.{blocks}
 use Rattle.calls.specs.Code.{Code}
 use Rattle.calls.specs.Calls as Calls
-use Rattle.calls.specs.Calls.{Stripe, stripe, Call, encode, repair, rebuild, correct, fetch, Need, Refusal, First, ◌unless◌, by, done, refused, needs, Effect, Outcome, Spare, Fetch}
+use Rattle.calls.specs.Calls.{Stripe, stripe, Call, encode, lose, repair, rebuild, correct, fetch, Need, First, ◌unless◌, by, done, refused, needs, Effect, Outcome, Spare, Fetch}
 use Rattle.calls.specs.Demands.{Alike, Same}
-use Rattle.calls.proofs.Needs.{undone}
 use Rattle.calls.proofs.Answers.{verdict_unique, verdict_marks}
 use Rattle.calls.proofs.Lists.{same_list, untouched_list}
 use Rattle.calls.proofs.Outcomes.{outcome_unique, outcome_alike, fetch_alike}
 use Rattle.plan.specs.declared.Standing.{Standing}
-use Rattle.plan.specs.declared.Answer.{Answer}
-use Rattle.plan.specs.declared.Answer.TheVariants.{Done, Refused}
+use Rattle.plan.specs.declared.Refusal.{Refusal}
 use Rattle.plan.specs.Codes.{code_of, InRange}
-use Rattle.plan.specs.Plans.{said}
+use Rattle.plan.specs.Refusals.{said}
 use Rattle.plan.proofs.Codes.{code_proper}
-use Rattle.shape.specs.declared.Stood.{Stood}
-use Rattle.repairs.specs.declared.Rebuilding.{Rebuilding}
-use Rattle.repairs.specs.declared.Rebuilding.TheVariants.{Whole, Denied, NoPlan}
-use Rattle.repairs.specs.declared.Rebuilt.{Rebuilt}
-use Rattle.shape.specs.Shapes.{Sized, stripe_of}
+use Rattle.repairs.specs.declared.Unrebuilt.{Unrebuilt}
+use Rattle.shape.specs.Shapes.{Sized, stripe_of, after}
 use Rattle.stripe.specs.Stripes.{Encodes, Loses, Fetches, PartOf, HandedBack, Views}
 use Rattle.correct.specs.Corrects.{Corrects}
 use Rattle.repairs.specs.Repairs.{told, RepairsOne, RebuildsAll}
+use Rattle.demands.proofs.Answers.{said_unit, stood_one, rebuilt_one}
 
--- ---- answers and standings
-
-said_one : (a b : Answer) → said a ≡ said b → a ≡ b
-said_one Done Done e = refl
-said_one Done (Refused m) e = absurd (undone _ e)
-said_one (Refused m) Done e = absurd (undone _ (sym e))
-said_one (Refused m) (Refused n) e = let f : m ≡ n = cc in ap Refused f
-
-told_one : (a b : Rebuilding) → told a ≡ told b → a ≡ b
-told_one Whole Whole e = refl
-told_one Whole (Denied m) e = absurd (undone _ e)
-told_one Whole (NoPlan b) e = absurd (undone _ e)
-told_one (Denied m) Whole e = absurd (undone _ (sym e))
-told_one (Denied m) (Denied n) e = let f : m ≡ n = cc in ap Denied f
-told_one (Denied m) (NoPlan b) e = let z : ◌≡◌ {A = ℕ} 0 1 = cc in absurd (omega arith)
-told_one (NoPlan b) Whole e = absurd (undone _ (sym e))
-told_one (NoPlan b) (Denied n) e = let z : ◌≡◌ {A = ℕ} 0 1 = cc in absurd (omega arith)
-told_one (NoPlan b) (NoPlan c) e = let f : b ≡ c = cc in ap NoPlan f
+-- ---- standings
 
 pub standing_one : {st u : Standing} → u.len ≡ st.len → ((b : ℕ) → marked u.lost b ≡ marked st.lost b) → st ≡ u
 standing_one {st} {u} e h i = record { len = sym e i; lost = marked_unique st.lost u.lost (λ b. sym (h b)) i }
-
-stood_one : {r r' : Stood} → said r.answer ≡ said r'.answer → r.standing ≡ r'.standing → r ≡ r'
-stood_one {r} {r'} e f i = record { standing = f i; answer = said_one r.answer r'.answer e i }
-
-rebuilt_one : {r r' : Rebuilt} → told r.answer ≡ told r'.answer → r.standing ≡ r'.standing → r ≡ r'
-rebuilt_one {r} {r'} e f i = record { standing = f i; answer = told_one r.answer r'.answer e i }
 
 -- ---- parts
 
@@ -81,19 +54,19 @@ module _ (st : Standing) (b : ℕ) (stripe spare r r' : Bor (List ℕ)) where
 -- ---- 6 and 7 are asked first
 
 -- a refusal leaves the stripe as it was, and the spare
-kept : {front : List Need} {c : Code} {s t : Stripe} {q : Call} {a : Calls.Answer} {r : Refusal} → Outcome front c s q a t → a ≡ refused r → t ≡ s
+kept : {front : List Need} {c : Code} {s t : Stripe} {q : Call} {a : Calls.Answer} {r : Calls.Refusal} → Outcome front c s q a t → a ≡ refused r → t ≡ s
 kept {c = c} {s = s} {t = t} {q = q} O e = subst (λ (a : Calls.Answer). Effect c s q a t) e O.effect
 
-spare_kept : {front : List Need} {c : Code} {s t : Stripe} {b : ℕ} {old new : List ℕ} {a : Calls.Answer} {r : Refusal}
+spare_kept : {front : List Need} {c : Code} {s t : Stripe} {b : ℕ} {old new : List ℕ} {a : Calls.Answer} {r : Calls.Refusal}
     → Fetch front c s b old a t new → a ≡ refused r → new ≡ old
 spare_kept {c = c} {s = s} {b = b} {old = old} {new = new} F e = subst (λ (a : Calls.Answer). Spare c s b a old new) e F.spare
 
 module _ (l : Layout) (P : Type 0) (rest : List Need) where
-  abbrev asked : List Need
+  abbrev pub asked : List Need
   asked = (by 6 unless Given l) ∷ (by 7 unless P) ∷ rest
 
   -- where neither is the answer, both are met
-  sound_or_refused : (qs : List Need) (a : Calls.Answer) → First (asked ++ qs) a → (Given l × P) ⊎ ((r : Refusal) × (a ≡ refused r))
+  sound_or_refused : (qs : List Need) (a : Calls.Answer) → First (asked ++ qs) a → (Given l × P) ⊎ ((r : Calls.Refusal) × (a ≡ refused r))
   sound_or_refused qs a (inl x) = inr (by 6, x.1)
   sound_or_refused qs a (inr (g, inl x)) = inr (by 7, x.1)
   sound_or_refused qs a (inr (g, inr (p, x))) = inl (g, p)
@@ -110,7 +83,7 @@ module _ (l : Layout) (P : Type 0) (rest : List Need) where
         e : a ≡ a'
         e = verdict_unique O.verdict O'.verdict
 
-        at : (Given l × P) ⊎ ((r : Refusal) × (a ≡ refused r)) → (a ≡ a') × Same code t t'
+        at : (Given l × P) ⊎ ((r : Calls.Refusal) × (a ≡ refused r)) → (a ≡ a') × Same code t t'
         at (inl x) = outcome_unique code (code_proper l x.0 L) (record { marks = λ b. refl; bytes = λ b y h k. refl }) O O'
         at (inr x) =
             let z : t' ≡ t = kept O' (sym e ∙ x.1) ∙ sym (kept O x.1) in
@@ -124,7 +97,7 @@ module _ (l : Layout) (P : Type 0) (rest : List Need) where
           e : a ≡ a'
           e = verdict_unique O.verdict (verdict_marks (λ b. sym (A.marks b)) O'.verdict)
 
-          at : (Given l × P) ⊎ ((r : Refusal) × (a ≡ refused r)) → (a ≡ a') × Alike code t t'
+          at : (Given l × P) ⊎ ((r : Calls.Refusal) × (a ≡ refused r)) → (a ≡ a') × Alike code t t'
           at (inl x) = outcome_alike code (code_proper l x.0 L) A (λ q. absurd (n q)) O O'
           at (inr x) = (e, rw (kept O x.1, kept O' (sym e ∙ x.1)) A)
 
@@ -136,104 +109,120 @@ module _ (l : Layout) (P : Type 0) (rest : List Need) where
           e : a ≡ a'
           e = verdict_unique F.outcome.verdict (verdict_marks (λ b. sym (A.marks b)) F'.outcome.verdict)
 
-          at : (Given l × P) ⊎ ((r : Refusal) × (a ≡ refused r)) → (a ≡ a') × (new ≡ new')
+          at : (Given l × P) ⊎ ((r : Calls.Refusal) × (a ≡ refused r)) → (a ≡ a') × (new ≡ new')
           at (inl x) = fetch_alike code (code_proper l x.0 L) A F F'
           at (inr x) = (e, spare_kept F x.1 ∙ sym (spare_kept F' (sym e ∙ x.1)))
 
--- ---- a call that is lent the stripe
+-- ---- a call that is lent the standing
 
--- lent the stripe xs with the standing st, the call q is answered a, and leaves the stripe ys with the standing u
-record Leaves (l : Layout) (st : Standing) (xs : List ℕ) (rest : List Need) (q : Call) (a : Calls.Answer) (u : Standing) (ys : List ℕ) : Type 0 where
-  outcome : Outcome (asked l (Sized l st.len (length xs)) rest) (code_of l st.len) (stripe_of st xs) q a (stripe_of u ys)
-  len : u.len ≡ st.len
-  long : length ys ≡ length xs
+-- lent the stripe xs with the standing st, the call q is answered a, and leaves the stripe ys with the standing u. `sized` is what must hold for 7 not to
+-- be given
+pub record Leaves (l : Layout) (st : Standing) (sized : Type 0) (xs : List ℕ) (rest : List Need) (q : Call) (a : Calls.Answer) (u : Standing) (ys : List ℕ)
+    : Type 0 where
+  pub outcome : Outcome (asked l sized rest) (code_of l st.len) (stripe_of st xs) q a (stripe_of u ys)
+  pub len : u.len ≡ st.len
+  pub long : length ys ≡ length xs
 
-module _ {l : Layout} {st : Standing} {xs : List ℕ} {rest : List Need} {q : Call} {a : Calls.Answer} {u : Standing} {ys : List ℕ}
-    (h : Leaves l st xs rest q a u ys) where
-  -- of one stripe: one answer, one standing, one list of bytes
-  module _ {a' : Calls.Answer} {u' : Standing} {ys' : List ℕ} (h' : Leaves l st xs rest q a' u' ys') where
-    leaves_same : (a ≡ a') × Same (code_of l st.len) (stripe_of u ys) (stripe_of u' ys')
-    leaves_same = outcomes_same l (Sized l st.len (length xs)) rest st.len h.outcome h'.outcome
+module _ {l : Layout} {st : Standing} {sized : Type 0} {xs : List ℕ} {rest : List Need} {q : Call} {a : Calls.Answer} {u : Standing} {ys : List ℕ}
+    (h : Leaves l st sized xs rest q a u ys) where
+  module _ {xs' : List ℕ} {a' : Calls.Answer} {u' : Standing} {ys' : List ℕ} (h' : Leaves l st sized xs' rest q a' u' ys') where
+    one_standing : ((b : ℕ) → marked u'.lost b ≡ marked u.lost b) → u ≡ u'
+    one_standing e = standing_one (h'.len ∙ sym h.len) e
 
-    leaves_bytes : ys ≡ ys'
-    leaves_bytes =
-        at (sound_or_refused l (Sized l st.len (length xs)) rest (needs (code_of l st.len) (marked st.lost) q) a h.outcome.verdict.first)
-      where
-        same : Same (code_of l st.len) (stripe st.len (marked u.lost) ys) (stripe st.len (marked u'.lost) ys')
-        same = rw (h.len, h'.len) at leaves_same.1
+    -- of two stripes that are alike: one answer, one standing, and stripes that are alike
+    pub leaves_alike : (q ≡ encode → ⊥) → Alike (code_of l st.len) (stripe_of st xs) (stripe_of st xs')
+        → (a ≡ a') × (u ≡ u') × Alike (code_of l st.len) (stripe_of u ys) (stripe_of u' ys')
+    leaves_alike n A = let x = outcomes_alike l sized rest st.len A n h.outcome h'.outcome in (x.0, one_standing x.1.marks, x.1)
 
-        at : (Given l × Sized l st.len (length xs)) ⊎ ((r : Refusal) × (a ≡ refused r)) → ys ≡ ys'
-        at (inl x) =
-            let z = x.1 in
-            sym (same_list (code_of l st.len) ys ys' z.range.least (h.long ∙ z.whole) (h'.long ∙ z.whole) same)
-        at (inr x) =
-            let k : stripe st.len (marked u.lost) ys ≡ stripe_of st xs = rw h.len at (kept h.outcome x.1) in
-            let k' : stripe st.len (marked u'.lost) ys' ≡ stripe_of st xs = rw h'.len at (kept h'.outcome (sym leaves_same.0 ∙ x.1)) in
-            untouched_list st.len xs ys h.long k ∙ sym (untouched_list st.len xs ys' h'.long k')
+  -- of one stripe: one answer, one standing, and stripes that hold the same
+  pub leaves_same : {a' : Calls.Answer} {u' : Standing} {ys' : List ℕ} → Leaves l st sized xs rest q a' u' ys'
+      → (a ≡ a') × (u ≡ u') × Same (code_of l st.len) (stripe_of u ys) (stripe_of u' ys')
+  leaves_same h' = let x = outcomes_same l sized rest st.len h.outcome h'.outcome in (x.0, one_standing h' x.1.marks, x.1)
 
-    leaves_unique : (a ≡ a') × (u ≡ u') × (ys ≡ ys')
-    leaves_unique = (leaves_same.0, standing_one (h'.len ∙ sym h.len) leaves_same.1.marks, leaves_bytes)
+  -- a refusal leaves the standing and every byte of the stripe
+  pub leaves_kept : {r : Calls.Refusal} → a ≡ refused r → (u ≡ st) × (ys ≡ xs)
+  leaves_kept e =
+      let t : stripe_of u ys ≡ stripe_of st xs = kept h.outcome e in (
+        sym (standing_one h.len (λ b. ap (λ (s : Stripe). s.lost b) t)),
+        untouched_list st.len xs ys h.long (rw h.len at t),
+      )
 
-  -- of two that are alike: one answer, one standing, and stripes that are alike
-  leaves_alike : {xs' : List ℕ} {a' : Calls.Answer} {u' : Standing} {ys' : List ℕ} → (q ≡ encode → ⊥) → length xs' ≡ length xs
-      → Alike (code_of l st.len) (stripe_of st xs) (stripe_of st xs') → Leaves l st xs' rest q a' u' ys'
-      → (a ≡ a') × (u ≡ u') × Alike (code_of l st.len) (stripe_of u ys) (stripe_of u' ys')
-  leaves_alike n w A h' =
-      let x = outcomes_alike l (Sized l st.len (length xs)) rest st.len A n h.outcome (rw w at h'.outcome) in
-      (x.0, standing_one (h'.len ∙ sym h.len) x.1.marks, x.1)
+-- of one stripe of the right size: one list of bytes
+module _ {l : Layout} {st : Standing} {xs : List ℕ} {rest : List Need} {q : Call} where
+  pub leaves_unique : {a a' : Calls.Answer} {u u' : Standing} {ys ys' : List ℕ} → Leaves l st (Sized l st.len (length xs)) xs rest q a u ys
+      → Leaves l st (Sized l st.len (length xs)) xs rest q a' u' ys' → (a ≡ a') × (u ≡ u') × (ys ≡ ys')
+  leaves_unique {a} {a'} {u} {u'} {ys} {ys'} h h' =
+      (x.0, x.1, at (sound_or_refused l (Sized l st.len (length xs)) rest (needs (code_of l st.len) (marked st.lost) q) a h.outcome.verdict.first))
+    where
+      x : (a ≡ a') × (u ≡ u') × Same (code_of l st.len) (stripe_of u ys) (stripe_of u' ys')
+      x = leaves_same h h'
+
+      at : (Given l × Sized l st.len (length xs)) ⊎ ((r : Calls.Refusal) × (a ≡ refused r)) → ys ≡ ys'
+      at (inl y) =
+          let z = y.1 in
+          sym (same_list (code_of l st.len) ys ys' z.range.least (h.long ∙ z.whole) (h'.long ∙ z.whole) (rw (h.len, h'.len) at x.2))
+      at (inr y) = (leaves_kept h y.1).1 ∙ sym (leaves_kept h' (sym x.0 ∙ y.1)).1
 
 -- ---- the contracts as such calls
 
 -- 8 is asked after them
-abbrev unmarked : Layout → Standing → List Need
+abbrev pub unmarked : Layout → Standing → List Need
 unmarked l st = (by 8 unless ((b : ℕ) → blocks l ≤ b → marked st.lost b ≡ false)) ∷ []
 
+-- a call that is lent the stripe, and, where it asks the marks, 8
+abbrev pub Lent : Layout → Standing → List ℕ → List Need → Call → Calls.Answer → Standing → List ℕ → Type 0
+Lent l st xs rest q a u ys = Leaves l st (Sized l st.len (length xs)) xs rest q a u ys
+
 module _ {l : Layout} {st : Standing} {xs ys : List ℕ} where
-  encode_leaves : {r : Stood} → Encodes l st xs ys r → Leaves l st xs [] encode (said r.answer) r.standing ys
+  pub encode_leaves : {r : Result Standing Refusal} → Encodes l st xs ys r → Lent l st xs [] encode (said r) (after st r) ys
   encode_leaves h = record { outcome = h.outcome; len = h.len; long = h.long }
 
-  repair_leaves : {b : ℕ} {r : Stood} → RepairsOne l st b xs ys r → Leaves l st xs (unmarked l st) (repair b) (said r.answer) r.standing ys
+  pub repair_leaves : {b : ℕ} {r : Result Standing Refusal} → RepairsOne l st b xs ys r → Lent l st xs (unmarked l st) (repair b) (said r) (after st r) ys
   repair_leaves h = record { outcome = h.outcome; len = h.len; long = h.long }
 
-  rebuild_leaves : {r : Rebuilt} → RebuildsAll l st xs ys r → Leaves l st xs (unmarked l st) rebuild (told r.answer) r.standing ys
+  pub rebuild_leaves : {r : Result Standing Unrebuilt} → RebuildsAll l st xs ys r → Lent l st xs (unmarked l st) rebuild (told r) (after st r) ys
   rebuild_leaves h = record { outcome = h.outcome; len = h.len; long = h.long }
 
-  correct_leaves : {i off : ℕ} {d : List ℕ} {r : Answer} → Corrects l st i off d xs ys r → Leaves l st xs (unmarked l st) (correct i off d) (said r) st ys
+  pub correct_leaves : {i off : ℕ} {d : List ℕ} {r : Result (Unit {0}) Refusal} → Corrects l st i off d xs ys r
+      → Lent l st xs (unmarked l st) (correct i off d) (said r) st ys
   correct_leaves h = record { outcome = h.outcome; len = refl; long = h.long }
+
+-- a loss is not lent the stripe: xs may be any
+pub lose_leaves : {l : Layout} {st : Standing} {b : ℕ} {r : Result Standing Refusal} (xs : List ℕ) → Loses l st b r
+    → Leaves l st (InRange st.len) xs (unmarked l st) (lose b) (said r) (after st r) xs
+lose_leaves xs h = record { outcome = h.outcome xs; len = h.len; long = refl }
 
 -- ---- AT MOST ONE OUTCOME
 
 module _ {l : Layout} {st : Standing} where
   module _ {xs ys ys' : List ℕ} where
     -- an encoding: every byte of the stripe, the standing and the answer
-    pub encodes_unique : {r r' : Stood} → Encodes l st xs ys r → Encodes l st xs ys' r' → (ys ≡ ys') × (r ≡ r')
-    encodes_unique h h' = let x = leaves_unique (encode_leaves h) (encode_leaves h') in (x.2, stood_one x.0 x.1)
+    pub encodes_unique : {r r' : Result Standing Refusal} → Encodes l st xs ys r → Encodes l st xs ys' r' → (ys ≡ ys') × (r ≡ r')
+    encodes_unique h h' = let x = leaves_unique (encode_leaves h) (encode_leaves h') in (x.2, stood_one st _ _ x.0 x.1)
 
     -- a repair: the same
-    pub repairs_unique : {b : ℕ} {r r' : Stood} → RepairsOne l st b xs ys r → RepairsOne l st b xs ys' r' → (ys ≡ ys') × (r ≡ r')
-    repairs_unique h h' = let x = leaves_unique (repair_leaves h) (repair_leaves h') in (x.2, stood_one x.0 x.1)
+    pub repairs_unique : {b : ℕ} {r r' : Result Standing Refusal} → RepairsOne l st b xs ys r → RepairsOne l st b xs ys' r' → (ys ≡ ys') × (r ≡ r')
+    repairs_unique h h' = let x = leaves_unique (repair_leaves h) (repair_leaves h') in (x.2, stood_one st _ _ x.0 x.1)
 
     -- a rebuild: the same, and the block that its 14 names
-    pub rebuilds_unique : {r r' : Rebuilt} → RebuildsAll l st xs ys r → RebuildsAll l st xs ys' r' → (ys ≡ ys') × (r ≡ r')
-    rebuilds_unique h h' = let x = leaves_unique (rebuild_leaves h) (rebuild_leaves h') in (x.2, rebuilt_one x.0 x.1)
+    pub rebuilds_unique : {r r' : Result Standing Unrebuilt} → RebuildsAll l st xs ys r → RebuildsAll l st xs ys' r' → (ys ≡ ys') × (r ≡ r')
+    rebuilds_unique h h' = let x = leaves_unique (rebuild_leaves h) (rebuild_leaves h') in (x.2, rebuilt_one st _ _ x.0 x.1)
 
     -- a correction: every byte of the stripe and the answer
-    pub corrects_unique : {i off : ℕ} {d : List ℕ} {r r' : Answer} → Corrects l st i off d xs ys r → Corrects l st i off d xs ys' r'
+    pub corrects_unique : {i off : ℕ} {d : List ℕ} {r r' : Result (Unit {0}) Refusal} → Corrects l st i off d xs ys r → Corrects l st i off d xs ys' r'
         → (ys ≡ ys') × (r ≡ r')
-    corrects_unique h h' = let x = leaves_unique (correct_leaves h) (correct_leaves h') in (x.2, said_one _ _ x.0)
+    corrects_unique h h' = let x = leaves_unique (correct_leaves h) (correct_leaves h') in (x.2, said_unit _ _ x.0)
 
   -- a loss: the standing and the answer
-  pub loses_unique : {b : ℕ} {r r' : Stood} → Loses l st b r → Loses l st b r' → r ≡ r'
-  loses_unique h h' =
-      let x = outcomes_same l (InRange st.len) (unmarked l st) st.len (h.outcome []) (h'.outcome []) in
-      stood_one x.0 (standing_one (h'.len ∙ sym h.len) x.1.marks)
+  pub loses_unique : {b : ℕ} {r r' : Result Standing Refusal} → Loses l st b r → Loses l st b r' → r ≡ r'
+  loses_unique h h' = let x = leaves_same (lose_leaves [] h) (lose_leaves [] h') in stood_one st _ _ x.0 x.1
 
   -- a fetch: every byte of the spare and the answer
-  pub fetches_unique : {b : ℕ} {xs old new new' : List ℕ} {r r' : Answer} → Fetches l st b xs old new r → Fetches l st b xs old new' r'
+  pub fetches_unique : {b : ℕ} {xs old new new' : List ℕ} {r r' : Result (Unit {0}) Refusal} → Fetches l st b xs old new r → Fetches l st b xs old new' r'
       → (new ≡ new') × (r ≡ r')
   fetches_unique {xs = xs} h h' =
       let x = spares_alike l (Sized l st.len (length xs)) (unmarked l st) st.len (record { marks = λ b. refl; bytes = λ b y k o m. refl }) h.fetch h'.fetch in
-      (x.1, said_one _ _ x.0)
+      (x.1, said_unit _ _ x.0)
 
   -- a view: what its part holds, and where it stands
   pub views_unique : {b : ℕ} {stripe spare r r' : Bor (List ℕ)} → Views l st b stripe spare r → Views l st b stripe spare r'
@@ -248,29 +237,23 @@ module _ {l : Layout} {st : Standing} where
 module _ {l : Layout} {st : Standing} {xs xs' : List ℕ} (w : length xs' ≡ length xs) (A : Alike (code_of l st.len) (stripe_of st xs) (stripe_of st xs')) where
   module _ {ys ys' : List ℕ} where
     -- a repair gives one answer and one standing, and the same bytes in every block not lost after it
-    pub repairs_stale : {b : ℕ} {r r' : Stood} → RepairsOne l st b xs ys r → RepairsOne l st b xs' ys' r'
-        → (r ≡ r') × Alike (code_of l st.len) (stripe_of r.standing ys) (stripe_of r'.standing ys')
-    repairs_stale h h' =
-        let x = leaves_alike (repair_leaves h) (λ e. let z : ◌≡◌ {A = ℕ} 0 1 = cc in omega arith) w A (repair_leaves h') in
-        (stood_one x.0 x.1, x.2)
+    pub repairs_stale : {b : ℕ} {r r' : Result Standing Refusal} → RepairsOne l st b xs ys r → RepairsOne l st b xs' ys' r'
+        → (r ≡ r') × Alike (code_of l st.len) (stripe_of (after st r) ys) (stripe_of (after st r') ys')
+    repairs_stale h h' = let x = leaves_alike (repair_leaves h) (rw w at (repair_leaves h')) (λ e. cc) A in (stood_one st _ _ x.0 x.1, x.2)
 
     -- a rebuild the same
-    pub rebuilds_stale : {r r' : Rebuilt} → RebuildsAll l st xs ys r → RebuildsAll l st xs' ys' r'
-        → (r ≡ r') × Alike (code_of l st.len) (stripe_of r.standing ys) (stripe_of r'.standing ys')
-    rebuilds_stale h h' =
-        let x = leaves_alike (rebuild_leaves h) (λ e. let z : ◌≡◌ {A = ℕ} 0 1 = cc in omega arith) w A (rebuild_leaves h') in
-        (rebuilt_one x.0 x.1, x.2)
+    pub rebuilds_stale : {r r' : Result Standing Unrebuilt} → RebuildsAll l st xs ys r → RebuildsAll l st xs' ys' r'
+        → (r ≡ r') × Alike (code_of l st.len) (stripe_of (after st r) ys) (stripe_of (after st r') ys')
+    rebuilds_stale h h' = let x = leaves_alike (rebuild_leaves h) (rw w at (rebuild_leaves h')) (λ e. cc) A in (rebuilt_one st _ _ x.0 x.1, x.2)
 
     -- a correction one answer, and the same bytes in every block not lost
-    pub corrects_stale : {i off : ℕ} {d : List ℕ} {r r' : Answer} → Corrects l st i off d xs ys r → Corrects l st i off d xs' ys' r'
+    pub corrects_stale : {i off : ℕ} {d : List ℕ} {r r' : Result (Unit {0}) Refusal} → Corrects l st i off d xs ys r → Corrects l st i off d xs' ys' r'
         → (r ≡ r') × Alike (code_of l st.len) (stripe_of st ys) (stripe_of st ys')
-    corrects_stale h h' =
-        let x = leaves_alike (correct_leaves h) (λ e. let z : ◌≡◌ {A = ℕ} 0 1 = cc in omega arith) w A (correct_leaves h') in
-        (said_one _ _ x.0, x.2)
+    corrects_stale h h' = let x = leaves_alike (correct_leaves h) (rw w at (correct_leaves h')) (λ e. cc) A in (said_unit _ _ x.0, x.2)
 
   -- a fetch one answer, and one spare
-  pub fetches_stale : {b : ℕ} {old new new' : List ℕ} {r r' : Answer} → Fetches l st b xs old new r → Fetches l st b xs' old new' r'
+  pub fetches_stale : {b : ℕ} {old new new' : List ℕ} {r r' : Result (Unit {0}) Refusal} → Fetches l st b xs old new r → Fetches l st b xs' old new' r'
       → (r ≡ r') × (new ≡ new')
   fetches_stale h h' =
       let x = spares_alike l (Sized l st.len (length xs)) (unmarked l st) st.len A h.fetch (rw w at h'.fetch) in
-      (said_one _ _ x.0, x.1)
+      (said_unit _ _ x.0, x.1)

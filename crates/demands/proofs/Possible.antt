@@ -1,61 +1,57 @@
 -- Proved: demand 3 is of something. From every sound state every list of losses, repairs and corrections has a run of the store's own calls, every stripe
 -- of the right size has an accepted encoding, and an accepted rebuild is itself a run of single repairs.
 use mathlib.Core.Path.{◌≡◌, refl, sym, ap, ap₂, ◌∙◌, subst, subst₃}
-use mathlib.Core.List.{List, [], ◌∷◌, ◌++◌}
+use mathlib.Core.List.{List, [], ◌∷◌, ◌++◌, map}
 use mathlib.Core.Bool.{Bool, true, false, cond}
 use mathlib.Core.Logic.{inl, inr}
-use Prim.Native.Nat.{ℕ, zero, suc, ◌+◌, ◌*◌, ◌/◌, ◌%◌, ◌<◌, ◌≤◌}
+use Prim.Native.Nat.{ℕ, zero, suc, ◌+◌, ◌*◌, ◌/◌, ◌%◌, ◌<◌}
 use native.Mathlib.Omega.{arith}
 use native.Mathlib.Nat.{mul-add-div_right, mul-add-mod_self_right, div-eq_of_lt, mod-eq_of_lt}
-use native.Mathlib.Decide.{dec_lt, dec_le}
 use lib.ListN.{length, get_or}
-use Rattle.linear.proofs.Sets.{remove_same, remove_other}
+use Rattle.std.specs.Prelude.{Result, Ok, Err}
+use Rattle.std.specs.List.{range_with_len}
+use Rattle.std.proofs.lemmas.List.FromFn.{length-map-range_with_len, get_or-map-range_with_len}
+use Rattle.linear.proofs.Sets.{insert_same, insert_other, remove_same, remove_other}
 use Rattle.groups.specs.declared.Layout.{Layout}
 use Rattle.given.specs.Given.{Given}
-use Rattle.marks.specs.Marks.{marked, without_mark}
-use Rattle.marks.proofs.Bits.{marked_zero, marked_without}
+use Rattle.marks.specs.Marks.{marked, with_mark, without_mark}
+use Rattle.marks.proofs.Bits.{marked_zero, marked_with, marked_without}
 use Rattle.rows.specs.Rows.{blocks}
-use Rattle.calls.specs.Code.{Code, Proper, HasPlan}
+use Rattle.calls.specs.Code.{Code, Proper}
 use Rattle.calls.specs.Calls as Calls
-use Rattle.calls.specs.Calls.{Stripe, Call, encode, lose, repair, correct, done, Verdict, Effect}
+use Rattle.calls.specs.Calls.{Stripe, Call, First, needs, encode, lose, repair, correct, done, Verdict, Effect}
 use Rattle.calls.specs.Demands.{Turn, calls, rising}
 use Rattle.calls.proofs.Needs.{decided}
-use Rattle.calls.proofs.Answers.{verdict_unique}
-use Rattle.calls.proofs.Plans.{has_plan_dec}
-use Rattle.calls.proofs.Existence.{Typed, any_outcome, listed, length_listed, get_d_listed}
+use Rattle.calls.proofs.Answers.{any_verdict, verdict_unique}
+use Rattle.calls.proofs.Existence.{Typed, any_outcome}
 use Rattle.calls.proofs.Rebuilds.{alike_self}
 use Rattle.pieces.proofs.Blocks.{under}
 use Rattle.plan.specs.declared.Standing.{Standing}
-use Rattle.plan.specs.declared.Answer.{Answer}
-use Rattle.plan.specs.declared.Answer.TheVariants.{Done, Refused}
-use Rattle.plan.specs.Codes.{code_of, InRange, Sound}
-use Rattle.plan.specs.Plans.{said, numbered}
-use Rattle.plan.specs.Front.{FrontSays}
+use Rattle.plan.specs.declared.Refusal.{Refusal}
+use Rattle.plan.specs.declared.Refusal.TheVariants as Why
+use Rattle.plan.specs.Codes.{code_of, InRange, front, Sound}
+use Rattle.plan.specs.Refusals.{said}
 use Rattle.plan.proofs.Codes.{code_proper}
 use Rattle.shape.specs.Shapes.{Sized, stripe_of}
-use Rattle.stripe.proofs.Answers.{loses_9, loses_11, loses_done}
-use Rattle.correct.proofs.Answers.{corrects_9, corrects_11, corrects_12}
-use Rattle.repairs.proofs.Repairing.{repairs_9, repairs_10}
 use Rattle.store.specs.declared.Said.{Said}
-use Rattle.store.specs.Answers.{spoken}
 use Rattle.store.specs.Store.{Encode, Lose, Repair, Rebuild, Correct}
-use Rattle.demands.specs.Runs.{Between, Runs, rest, loss, mend, amend, Small, Stands, Come, none, a_loss, a_repair, a_correction, Ran, Possible}
+use Rattle.demands.specs.Runs.{Between, Runs, numbered, rest, loss, mend, amend, Small, Stands, Come, none, a_loss, a_repair, a_correction, Ran, Possible}
 use Rattle.demands.proofs.Demand3.{start, passage, rebuilt, demand_3_rebuild}
 
 -- ---- n blocks of L bytes, one after another
 
 module _ (n L : ℕ) (f : ℕ → ℕ → ℕ) where
   laid_out : List ℕ
-  laid_out = listed (λ j. f (j / L) (j % L)) (n * L)
+  laid_out = map (λ j. f (j / L) (j % L)) (range_with_len 0 (n * L))
 
   long_laid_out : length laid_out ≡ n * L
   unfolding laid_out
-  long_laid_out = length_listed (λ j. f (j / L) (j % L)) (n * L)
+  long_laid_out = length-map-range_with_len (λ j. f (j / L) (j % L)) 0 (n * L)
 
   byte_laid_out : (b x : ℕ) → b < n → x < L → get_or laid_out (b * L + x) 0 ≡ f b x
   unfolding laid_out
   byte_laid_out b x h k =
-      get_d_listed (λ j. f (j / L) (j % L)) (n * L) (b * L + x) (omega (arith, under L b n h))
+      get_or-map-range_with_len (λ j. f (j / L) (j % L)) 0 (n * L) (b * L + x) (b * L + x) 0 (omega (arith, under L b n h)) (omega arith)
       ∙ ap₂ f (mul-add-div_right (omega arith) b x ∙ ap (λ (y : ℕ). b + y) (div-eq_of_lt k) ∙ right b) (mul-add-mod_self_right b L x ∙ mod-eq_of_lt k)
     where
       right : (b : ℕ) → b + 0 ≡ b
@@ -73,13 +69,13 @@ accepted c p s q h v =
 any_encode : {l : Layout} (st : Standing) (xs : List ℕ) → Given l → Sized l st.len (length xs)
     → (r : Said) × (u : Standing) × (ys : List ℕ) × Encode l st xs r u ys × (r.number ≡ 0)
 any_encode {l} st xs g size =
-    let x = accepted (code_of l st.len) (code_proper l g st.len) (stripe_of st xs) encode (record { small = λ i off d e. absurd (never e) }) (record { first = refl }) in
+    let x = accepted (code_of l st.len) (code_proper l g st.len) (stripe_of st xs) encode (record { small = λ i off d e. cc }) (record { first = refl }) in
     let same = byte_laid_out (blocks l) st.len x.0.byte in (
-      spoken Done,
+      _,
       record { len = st.len; lost = 0 },
       laid_out (blocks l) st.len x.0.byte,
       record {
-        answer = Done;
+        answer = Ok (record { len = st.len; lost = 0 });
         does = record {
           outcome = record {
             verdict = record { first = inr (g, inr (size, refl)) };
@@ -92,13 +88,11 @@ any_encode {l} st xs g size =
           len = refl;
           long = long_laid_out (blocks l) st.len x.0.byte ∙ sym size.whole;
         };
+        left = refl;
         said = refl;
       },
       refl,
     )
-  where
-    never : {i off : ℕ} {d : List ℕ} → encode ≡ correct i off d → ⊥
-    never e = let z : ◌≡◌ {A = ℕ} 0 1 = cc in omega arith
 
 module _ (l : Layout) (st : Standing) (xs : List ℕ) (s : Sound l st (Sized l st.len (length xs))) where
   abbrev code : Code
@@ -107,53 +101,91 @@ module _ (l : Layout) (st : Standing) (xs : List ℕ) (s : Sound l st (Sized l s
   proper : Proper code
   proper = code_proper l s.given st.len
 
+  -- what the call q asks after 6, 7 and 8, the first unmet being answered by a
+  abbrev Asks : Call → Calls.Answer → Type 0
+  Asks q a = First (needs code (marked st.lost) q) a
+
+  -- which answer that is
+  any_first : (q : Call) → (a : Calls.Answer) × Asks q a
+  any_first q = let x = any_verdict code proper (marked st.lost) decided q in (x.0, x.1.first)
+
+  -- 6, 7 and 8 do not apply
+  judged : {q : Call} {a : Calls.Answer} → Asks q a → Verdict (front l st (Sized l st.len (length xs))) code (marked st.lost) q a
+  judged f = record { first = inr (s.given, inr (s.size, inr (s.unmarked, f))) }
+
   any_lose : (b : ℕ) → (r : Said) × (u : Standing) × Lose l st b r u
-  any_lose b = at (dec_lt b (blocks l)) (marked st.lost b) refl
+  any_lose b = let x = any_first (lose b) in at x.1
     where
-      says : FrontSays l st (InRange st.len) 0
-      says = record { first = inr (s.given, inr (s.size.range, inr (s.unmarked, refl))) }
+      judged_alone : {a : Calls.Answer} → Asks (lose b) a → Verdict (front l st (InRange st.len)) code (marked st.lost) (lose b) a
+      judged_alone f = record { first = inr (s.given, inr (s.size.range, inr (s.unmarked, f))) }
 
-      at : Dec (b < blocks l) → (x : Bool) → marked st.lost b ≡ x → (r : Said) × (u : Standing) × Lose l st b r u
-      at (no h) x o = (_, _, record { answer = _; does = loses_9 l st b says refl (omega arith); said = refl })
-      at (yes h) true o = (_, _, record { answer = _; does = loses_11 l st b says refl h o; said = refl })
-      at (yes h) false o = (_, _, record { answer = _; does = loses_done l st b says refl h o; said = refl })
-
-  any_repair : (b : ℕ) → (r : Said) × (u : Standing) × (ys : List ℕ) × Repair l st xs b r u ys
-  any_repair b = at (dec_lt b (blocks l)) (marked st.lost b) refl
-    where
-      never : {i off : ℕ} {d : List ℕ} → repair b ≡ correct i off d → ⊥
-      never e = let z : ◌≡◌ {A = ℕ} 0 1 = cc in omega arith
-
-      planned : b < blocks l → marked st.lost b ≡ true → Dec (HasPlan code (marked st.lost) b)
-          → (r : Said) × (u : Standing) × (ys : List ℕ) × Repair l st xs b r u ys
-      planned h o (no n) = (
-        spoken (Refused 14),
+      refuse : (e : Refusal) → Asks (lose b) (said {A = Standing} (Err e)) → (r : Said) × (u : Standing) × Lose l st b r u
+      refuse e f = (
+        _,
         st,
-        xs,
         record {
-          answer = Refused 14;
-          does = record {
-            outcome = record {
-              verdict = record { first = inr (s.given, inr (s.size, inr (s.unmarked, inr (h, inr (o, inl (n, refl)))))) };
-              effect = refl;
-            };
-            len = refl;
-            long = refl;
-          };
+          answer = Err e;
+          does = record { outcome = λ zs. record { verdict = judged_alone f; effect = refl }; len = refl };
+          left = refl;
           said = refl;
         },
       )
-      planned h o (yes w) =
+
+      at : {a : Calls.Answer} → Asks (lose b) a → (r : Said) × (u : Standing) × Lose l st b r u
+      at (inl x) = refuse Why.Block (inl (x.0, refl))
+      at (inr (h, inl x)) = refuse Why.Lost (inr (h, inl (x.0, refl)))
+      at (inr (h, inr (o, e))) = (
+        _,
+        _,
+        record {
+          answer = Ok (record { len = st.len; lost = with_mark st.lost b });
+          does = record {
+            outcome = λ zs. record {
+              verdict = judged_alone (inr (h, inr (o, refl)));
+              effect = record {
+                mark = marked_with st.lost b b ∙ insert_same b (marked st.lost);
+                marks = λ a n. marked_with st.lost b a ∙ insert_other b (marked st.lost) a n;
+                bytes = λ a y i k. refl;
+              };
+            };
+            len = refl;
+          };
+          left = refl;
+          said = refl;
+        },
+      )
+
+  any_repair : (b : ℕ) → (r : Said) × (u : Standing) × (ys : List ℕ) × Repair l st xs b r u ys
+  any_repair b = let x = any_first (repair b) in at x.1
+    where
+      refuse : (e : Refusal) → Asks (repair b) (said {A = Standing} (Err e)) → (r : Said) × (u : Standing) × (ys : List ℕ) × Repair l st xs b r u ys
+      refuse e f = (
+        _,
+        st,
+        xs,
+        record {
+          answer = Err e;
+          does = record { outcome = record { verdict = judged f; effect = refl }; len = refl; long = refl };
+          left = refl;
+          said = refl;
+        },
+      )
+
+      at : {a : Calls.Answer} → Asks (repair b) a → (r : Said) × (u : Standing) × (ys : List ℕ) × Repair l st xs b r u ys
+      at (inl x) = refuse Why.Block (inl (x.0, refl))
+      at (inr (h, inl x)) = refuse Why.Present (inr (h, inl (x.0, refl)))
+      at (inr (h, inr (o, inl x))) = refuse Why.NoPlan (inr (h, inr (o, inl (x.0, refl))))
+      at (inr (h, inr (o, inr (w, e)))) =
           let v : Verdict [] code (marked st.lost) (repair b) done = record { first = inr (h, inr (o, inr (w, refl))) } in
-          let x = accepted code proper (stripe_of st xs) (repair b) (record { small = λ i off d e. absurd (never e) }) v in (
-            spoken Done,
-            record { len = st.len; lost = without_mark st.lost b },
+          let x = accepted code proper (stripe_of st xs) (repair b) (record { small = λ i off d e. cc }) v in (
+            _,
+            _,
             laid_out (blocks l) st.len x.0.byte,
             record {
-              answer = Done;
+              answer = Ok (record { len = st.len; lost = without_mark st.lost b });
               does = record {
                 outcome = record {
-                  verdict = record { first = inr (s.given, inr (s.size, inr (s.unmarked, v.first))) };
+                  verdict = judged v.first;
                   effect = record {
                     block = record {
                       coef = x.1.block.coef;
@@ -168,34 +200,34 @@ module _ (l : Layout) (st : Standing) (xs : List ℕ) (s : Sound l st (Sized l s
                 len = refl;
                 long = long_laid_out (blocks l) st.len x.0.byte ∙ sym s.size.whole;
               };
+              left = refl;
               said = refl;
             },
           )
 
-      at : Dec (b < blocks l) → (x : Bool) → marked st.lost b ≡ x → (r : Said) × (u : Standing) × (ys : List ℕ) × Repair l st xs b r u ys
-      at (no h) x o = (_, _, _, record { answer = _; does = repairs_9 l st b xs s (omega arith); said = refl })
-      at (yes h) false o = (_, _, _, record { answer = _; does = repairs_10 l st b xs s h o; said = refl })
-      at (yes h) true o = planned h o (has_plan_dec code proper (marked st.lost) b h)
-
-  any_correct : (i off : ℕ) (d : List ℕ) → Small d → (a : Answer) × (ys : List ℕ) × Correct l st xs i off d a ys
-  any_correct i off d small = at (dec_lt i l.k) (marked st.lost i) refl (dec_le (off + length d) st.len)
+  any_correct : (i off : ℕ) (d : List ℕ) → Small d → (r : Result (Unit {0}) Refusal) × (ys : List ℕ) × Correct l st xs i off d r ys
+  any_correct i off d small = let x = any_first (correct i off d) in at x.1
     where
       typed : Typed (correct i off d)
       typed = record { small = λ j o f e. let g : d ≡ f = cc in rw (← g) small }
 
-      at : Dec (i < l.k) → (x : Bool) → marked st.lost i ≡ x → Dec (off + length d ≤ st.len) → (a : Answer) × (ys : List ℕ) × Correct l st xs i off d a ys
-      at (no h) x o w = (_, _, corrects_9 l st i off d xs s (omega arith))
-      at (yes h) true o w = (_, _, corrects_11 l st i off d xs s h o)
-      at (yes h) false o (no w) = (_, _, corrects_12 l st i off d xs s h o w)
-      at (yes h) false o (yes w) =
+      refuse : (e : Refusal) → Asks (correct i off d) (said {A = Unit {0}} (Err e))
+          → (r : Result (Unit {0}) Refusal) × (ys : List ℕ) × Correct l st xs i off d r ys
+      refuse e f = (Err e, xs, record { outcome = record { verdict = judged f; effect = refl }; long = refl })
+
+      at : {a : Calls.Answer} → Asks (correct i off d) a → (r : Result (Unit {0}) Refusal) × (ys : List ℕ) × Correct l st xs i off d r ys
+      at (inl x) = refuse Why.Block (inl (x.0, refl))
+      at (inr (h, inl x)) = refuse Why.Lost (inr (h, inl (x.0, refl)))
+      at (inr (h, inr (o, inl x))) = refuse Why.Range (inr (h, inr (o, inl (x.0, refl))))
+      at (inr (h, inr (o, inr (w, e)))) =
           let v : Verdict [] code (marked st.lost) (correct i off d) done = record { first = inr (h, inr (o, inr (w, refl))) } in
           let x = accepted code proper (stripe_of st xs) (correct i off d) typed v in
           let same = byte_laid_out (blocks l) st.len x.0.byte in (
-            Done,
+            Ok tt,
             laid_out (blocks l) st.len x.0.byte,
             record {
               outcome = record {
-                verdict = record { first = inr (s.given, inr (s.size, inr (s.unmarked, v.first))) };
+                verdict = judged v.first;
                 effect = record {
                   small = small;
                   marks = λ b. refl;

@@ -1,7 +1,7 @@
 -- Proved: the needs that a call asks are the rows of the table. A need is unmet just where its row applies, and the first unmet need gives the number that
 -- the rows give, and no other.
 use mathlib.Core.Path.{◌≡◌, refl, sym, ap, ◌∙◌, subst}
-use mathlib.Core.Bool.{Bool, true, false}
+use mathlib.Core.Bool.{true, false, Bool-discrete}
 use mathlib.Core.List.{List, [], ◌∷◌, ◌++◌}
 use mathlib.Core.Logic.{◌⊎◌, inl, inr}
 use Prim.Native.Nat.{ℕ, zero, suc, ◌+◌, ◌-◌, ◌*◌, ◌^◌, ◌<◌, ◌≤◌}
@@ -9,8 +9,8 @@ use native.Mathlib.Omega.{arith}
 use native.Mathlib.Decide.{dec_lt, dec_le}
 use lib.ListN.{length}
 use lib.Pow.{pow-lt}
+use Rattle.std.proofs.lemmas.Bool.{true_from_ne_false, false_from_ne_true}
 use borrow.Author.Tests.{lt-ltb}
-use Rattle.linear.proofs.Sets.{in_and_out}
 use Rattle.groups.specs.declared.Layout.{Layout}
 use Rattle.given.specs.Given.{Given}
 use Rattle.marks.specs.Marks.{marked, none_from}
@@ -20,7 +20,7 @@ use Rattle.calls.specs.Code.{HasPlan}
 use Rattle.calls.specs.Calls.{Call, Refusal, by, Answer, done, refused, Need, ◌unless◌, First, each, needs, encode, lose, repair, rebuild, correct, fetch}
 use Rattle.calls.proofs.Needs.{first_exists, decidable_each, each_done, each_refused}
 use Rattle.calls.proofs.Plans.{has_plan_dec}
-use Rattle.calls.proofs.Answers.{rebuild_done, rebuild_refused}
+use Rattle.calls.proofs.Answers.{rebuild_done, rebuild_refused, unmet_lost}
 use Rattle.plan.specs.declared.Standing.{Standing}
 use Rattle.plan.specs.Codes.{code_of, InRange, front}
 use Rattle.plan.proofs.Codes.{code_proper}
@@ -83,18 +83,6 @@ counterexample {P} m d h = let x = first_exists (decidable_each asks m 0 (λ j l
 
 -- ---- marks
 
-not_false : {x : Bool} → (x ≡ false → ⊥) → x ≡ true
-not_false {x = true} n = refl
-not_false {x = false} n = absurd (n refl)
-
-not_true : {x : Bool} → (x ≡ true → ⊥) → x ≡ false
-not_true {x = true} n = absurd (n refl)
-not_true {x = false} n = refl
-
-false_dec : (x : Bool) → Dec (x ≡ false)
-false_dec true = no (λ e. in_and_out refl e)
-false_dec false = yes refl
-
 below_power : (m : ℕ) → m < 2 ^ m
 below_power zero = omega arith
 below_power (suc m) = omega (arith, pow-lt {i = m} {j = suc m} (omega arith), below_power m)
@@ -103,8 +91,8 @@ below_power (suc m) = omega (arith, pow-lt {i = m} {j = suc m} (omega arith), be
 mark_above : (m n : ℕ) → (((b : ℕ) → n ≤ b → marked m b ≡ false) → ⊥) → (b : ℕ) × (n ≤ b) × (marked m b ≡ true)
 unfolding none_from
 mark_above m n h =
-    let x = counterexample {P = λ j. marked m (n + j) ≡ false} m (λ j l. false_dec (marked m (n + j))) (λ f. h (λ b l. at f b l (dec_lt (b - n) m))) in
-    (n + x.0, omega arith, not_false x.2)
+    let x = counterexample {P = λ j. marked m (n + j) ≡ false} m (λ j l. Bool-discrete (marked m (n + j)) false) (λ f. h (λ b l. at f b l (dec_lt (b - n) m))) in
+    (n + x.0, omega arith, true_from_ne_false _ x.2)
   where
     at : ((j : ℕ) → j < m → marked m (n + j) ≡ false) → (b : ℕ) → n ≤ b → Dec (b - n < m) → marked m b ≡ false
     at f b l (yes k) = let e : n + (b - n) ≡ b = omega arith in rw e at (f (b - n) k)
@@ -143,16 +131,16 @@ as_7_alone : (L : ℕ) → As (by 7 unless InRange L) (no_7_alone L)
 as_7_alone L = record { same = refl; against = λ n r. n r; unmet = λ n. n }
 
 as_8 : (l : Layout) (lost : ℕ) → As (by 8 unless ((b : ℕ) → blocks l ≤ b → marked lost b ≡ false)) (no_8 l lost)
-as_8 l lost = record { same = refl; against = λ w h. in_and_out w.2 (h w.0 w.1); unmet = mark_above lost (blocks l) }
+as_8 l lost = record { same = refl; against = λ w h. cc (w.2, h w.0 w.1); unmet = mark_above lost (blocks l) }
 
 as_9 : (most b : ℕ) → As (by 9 unless (b < most)) (no_9 most b)
 as_9 most b = record { same = refl; against = λ w h. omega arith; unmet = λ n. omega arith }
 
 as_10 : (lost b : ℕ) → As (by 10 unless (marked lost b ≡ true)) (no_10 lost b)
-as_10 lost b = record { same = refl; against = λ w h. in_and_out h w; unmet = not_true }
+as_10 lost b = record { same = refl; against = λ w h. cc; unmet = false_from_ne_true (marked lost b) }
 
 as_11 : (lost b : ℕ) → As (by 11 unless (marked lost b ≡ false)) (no_11 lost b)
-as_11 lost b = record { same = refl; against = λ w h. in_and_out w h; unmet = not_false }
+as_11 lost b = record { same = refl; against = λ w h. cc; unmet = true_from_ne_false (marked lost b) }
 
 as_12 : (L off m : ℕ) → As (by 12 unless (off + m ≤ L)) (no_12 L off m)
 as_12 L off m = record { same = refl; against = λ w h. omega arith; unmet = λ n. omega arith }
@@ -171,7 +159,7 @@ as_14_if l L lost b =
     record {
       same = refl;
       against = λ w h. w.1 (h w.0);
-      unmet = λ n. (not_false (λ e. n (λ o. in_and_out o e)), λ p. n (λ o. p));
+      unmet = λ n. (unmet_lost (marked lost b) n, λ p. n (λ o. p));
     }
 
 as_15 : (limits : Limits) → As (by 15 unless Numbers limits) (no_15 limits)

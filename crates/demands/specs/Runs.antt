@@ -1,13 +1,13 @@
 -- Believed: demand 3 over the store's own calls: runs of losses, repairs and corrections on a stripe with its standing, one layout kept throughout; and
 -- what it is for lists of such calls to have runs.
-use Rattle.std.specs.Prelude.{◌≡◌, List, [], ◌∷◌, ℕ, ◌<◌, length, get_or}
+use Rattle.std.specs.Prelude.{◌≡◌, List, [], ◌∷◌, ℕ, zero, suc, ◌<◌, length, get_or, Result}
 use Rattle.groups.specs.declared.Layout.{Layout}
-use Rattle.calls.specs.Calls.{Call, lose, repair, correct}
+use Rattle.calls.specs.Calls.{Call, lose, repair, correct, Answer, done, refused, by}
 use Rattle.calls.specs.Demands.{Alike, Turn, calls}
 use Rattle.plan.specs.declared.Standing.{Standing}
-use Rattle.plan.specs.declared.Answer.{Answer}
+use Rattle.plan.specs.declared.Refusal.{Refusal}
 use Rattle.plan.specs.Codes.{code_of, Sound}
-use Rattle.plan.specs.Plans.{said, numbered}
+use Rattle.plan.specs.Refusals.{said}
 use Rattle.shape.specs.Shapes.{Sized, stripe_of}
 use Rattle.store.specs.declared.Said.{Said}
 use Rattle.store.specs.Store.{Encode, Lose, Repair, Correct}
@@ -18,6 +18,11 @@ pub record Between (l : Layout) (st : Standing) (xs ys : List ℕ) : Type 0 wher
   pub long : length ys ≡ length xs
   pub alike : Alike (code_of l st.len) (stripe_of st xs) (stripe_of st ys)
 
+-- the answer that a number is: 0 for accepted
+abbrev pub numbered : ℕ → Answer
+numbered zero = done
+numbered (suc m) = refused (by (suc m))
+
 -- calls of the store, each with its answer, lead from the standing st and the stripe xs to u and zs
 pub data Runs (l : Layout) : Standing → List ℕ → List Turn → Standing → List ℕ → Type 0 where
   rest : {st : Standing} {xs ys : List ℕ} → Between l st xs ys → Runs l st xs [] st ys
@@ -27,7 +32,7 @@ pub data Runs (l : Layout) : Standing → List ℕ → List Turn → Standing �
   mend : {st st' u : Standing} {xs ys ys' zs : List ℕ} {gs : List Turn} {b : ℕ} {r : Said}
       → Between l st xs ys → Repair l st ys b r st' ys' → Runs l st' ys' gs u zs
       → Runs l st xs (record { call = repair b; answer = numbered r.number } ∷ gs) u zs
-  amend : {st u : Standing} {xs ys ys' zs : List ℕ} {gs : List Turn} {i off : ℕ} {d : List ℕ} {a : Answer}
+  amend : {st u : Standing} {xs ys ys' zs : List ℕ} {gs : List Turn} {i off : ℕ} {d : List ℕ} {a : Result (Unit {0}) Refusal}
       → Between l st xs ys → Correct l st ys i off d a ys' → Runs l st ys' gs u zs
       → Runs l st xs (record { call = correct i off d; answer = said a } ∷ gs) u zs
 

@@ -1,17 +1,16 @@
 -- Believed: document 01, "When the store says no": the table, and which of its rows each call asks. Demand 1: "A bad one is refused by a number from our
 -- table, under the conditions written there and no others."
-use Rattle.std.specs.Prelude.{◌≡◌, ◌⊎◌, List, [], ◌∷◌, true, false, ℕ, ◌+◌, ◌*◌, ◌<◌, ◌≤◌}
+use Rattle.std.specs.Prelude.{◌≡◌, ◌⊎◌, List, [], ◌∷◌, true, false, ℕ, ◌+◌, ◌*◌, ◌<◌, ◌≤◌, Result, Ok, Err}
 use Rattle.groups.specs.declared.Layout.{Layout}
 use Rattle.given.specs.Given.{Given}
 use Rattle.marks.specs.Marks.{marked}
 use Rattle.rows.specs.Rows.{blocks}
 use Rattle.calls.specs.Code.{HasPlan}
 use Rattle.plan.specs.declared.Standing.{Standing}
-use Rattle.plan.specs.declared.Answer.{Answer}
-use Rattle.plan.specs.declared.Answer.TheVariants.{Done, Refused}
+use Rattle.plan.specs.declared.Refusal.{Refusal}
 use Rattle.plan.specs.Codes.{code_of, InRange}
+use Rattle.plan.specs.Refusals as Refusals
 use Rattle.price.specs.declared.Limits.{Limits}
-use Rattle.price.specs.declared.Price as Sheet
 use Rattle.price.specs.Sheet.{Numbers, alone}
 
 -- a row of the table: a number, and what stands under "Given exactly when"
@@ -126,12 +125,6 @@ pub record Answered (rs : List Row) (number : ℕ) (kept : Type 0) : Type 0 wher
   pub keeps : (number ≡ 0 → ⊥) → kept
 
 -- the number that an answer is: 0 for accepted
-abbrev pub number : Answer → ℕ
-number Done = 0
-number (Refused m) = m
-
-abbrev pub price_number : Sheet.Price → ℕ
-price_number (Sheet.TheVariants.Refused m) = m
-price_number (Sheet.TheVariants.Fits storage reads) = 0
-price_number (Sheet.TheVariants.TooLarge storage) = 0
-price_number (Sheet.TheVariants.TooManyReads reads) = 0
+abbrev pub number : {A : Type 0} → Result A Refusal → ℕ
+number (Ok x) = 0
+number (Err e) = Refusals.number e

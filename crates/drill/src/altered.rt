@@ -1,52 +1,32 @@
 // One field of a layout altered: it becomes one more, and the largest number 0.
+// Stays: fields are numbers, which a script names them by (docs/DRILL.md): eight of each of sixteen groups and three more, of which an enum would list 131.
 use groups::{Group, Layout};
 
-fn up(x: usize) -> usize {
-    x.wrapping_add(1)
-}
-
-fn up_byte(x: u8) -> u8 {
-    x.wrapping_add(1)
-}
-
-// A group with field j altered.
-fn group(old: Group, j: usize) -> Group {
-    let mut g = old;
+// Alters field j of a group.
+fn group(g: &mut Group, j: usize) {
     match j {
-        0 => g.h = up_byte(g.h),
-        1 => g.d = up_byte(g.d),
-        2 => g.len = up(g.len),
-        3 => g.row = up(g.row),
-        4 => g.first = up(g.first),
-        5 => g.redundant = up(g.redundant),
-        6 => g.size = up(g.size),
-        _ => g.count = up(g.count),
+        0 => g.h = g.h.wrapping_add(1),
+        1 => g.d = g.d.wrapping_add(1),
+        2 => g.len = g.len.wrapping_add(1),
+        3 => g.row = g.row.wrapping_add(1),
+        4 => g.first = g.first.wrapping_add(1),
+        5 => g.redundant = g.redundant.wrapping_add(1),
+        6 => g.size = g.size.wrapping_add(1),
+        _ => g.count = g.count.wrapping_add(1),
     }
-    g
 }
 
-// Field f from 3 on; a larger one than there is alters nothing.
-fn inside(l: Layout, f: usize) -> Layout {
-    let mut lay = l;
-    if f < 3 {
-        return lay;
-    }
-    let at = (f - 3) / 8;
-    if at < 16 {
-        let old = lay.list[at];
-        let g = group(old, (f - 3) % 8);
-        lay.list[at] = g;
-    }
-    lay
-}
-
-pub fn field(l: Layout, f: u8) -> Layout {
-    let mut lay = l;
+// Alters field f; a larger one than there is alters nothing.
+pub fn field(l: &mut Layout, f: u8) {
     match f {
-        0 => lay.groups = up(lay.groups),
-        1 => lay.k = up(lay.k),
-        2 => lay.r = up(lay.r),
-        _ => lay = inside(l, f as usize),
+        0 => l.groups = l.groups.wrapping_add(1),
+        1 => l.k = l.k.wrapping_add(1),
+        2 => l.r = l.r.wrapping_add(1),
+        _ => {
+            let inside = usize::from(f) - 3;
+            if let Some(g) = l.list.get_mut(inside / 8) {
+                group(g, inside % 8);
+            }
+        }
     }
-    lay
 }

@@ -11,10 +11,7 @@ ghost use Rattle.field.specs.Scaled.{scaled_add};
 pub fn mul(a: u8, b: u8) -> u8
     ensures { result ≡ mul a b }
 {
-    if a == 0 {
-        return 0;
-    }
-    if b == 0 {
+    if a == 0 || b == 0 {
         return 0;
     }
     powers::power_at((logs::log_of(a) as usize + logs::log_of(b) as usize) % 255)
@@ -38,15 +35,12 @@ pub fn coef(j: u8, i: u8) -> u8
 }
 
 // dst plus c times src, position by position.
+// Stays: an index by enumerate. A zip of iter_mut and src was tried: a proof does not know what it wrote, and `returns` stays open.
 pub fn scaled_add(dst: &mut [u8], src: &[u8], c: u8)
     requires { length src.now ≡ length dst.old }
     ensures { dst.new ≡ scaled_add dst.old c src.now }
 {
-    let n = dst.len();
-    let mut i = 0;
-    while n - i > 0 {
-        let p = mul(c, src[i]);
-        dst[i] = dst[i] ^ p;
-        i += 1;
+    for (i, d) in dst.iter_mut().enumerate() {
+        *d ^= mul(c, src[i]);
     }
 }

@@ -8,10 +8,8 @@ use native.Mathlib.Omega.{arith}
 use lib.ListN.{get_or, replicate}
 use lib.Seq.{take_at}
 use Rattle.groups.specs.declared.Layout.{Layout}
-use Rattle.note.specs.declared.Answer.TheVariants.{Accepted, Refused}
-use Rattle.note.specs.declared.Reading.{Reading}
 use Rattle.groups.specs.Groups.{no_group}
-use Rattle.note.specs.Note.{Bytes, Outcome, reading, read_note}
+use Rattle.note.specs.Note.{Bytes, read_note}
 use Rattle.note.specs.Note.Outcome.{layout, refusal}
 use Rattle.given.specs.Given.{Given, Tells, headers, layout_note}
 use Rattle.given.specs.Inner.{IsNote}
@@ -115,21 +113,15 @@ given_told l true p = record { note = layout_note l; bytes = p.bytes; gives = p.
 given_told l false n = λ g.
     n (record { bytes = subst Bytes (sym (write_read g.note l g.bytes g.gives)) g.bytes; gives = read_write l g })
 
-accepted_layout : (o : Outcome) (l : Layout) → (reading o).answer ≡ Accepted → (reading o).layout ≡ l → o ≡ layout l
-accepted_layout (layout x) l a p = ap layout p
-accepted_layout (refusal number offset) l a p = let z : ◌≡◌ {A = ℕ} 0 1 = cc in absurd (omega arith)
+pub accepted_told : (s : List ℕ) (x l : Layout) (t : Bool) → Bytes s → layout x ≡ read_note s → Tells t (x ≡ l) → Tells t (IsNote l s)
+accepted_told s x l true b e p = record { bytes = b; gives = sym e ∙ ap layout p }
+accepted_told s x l false b e n = λ g. n (same (e ∙ g.gives))
+  where
+    same : layout x ≡ layout l → x ≡ l
+    same p = cc
 
-pub accepted_told : (s : List ℕ) (r : Reading) (l : Layout) (t : Bool) → Bytes s → r ≡ reading (read_note s) → r.answer ≡ Accepted → Tells t (r.layout ≡ l) →
-    Tells t (IsNote l s)
-accepted_told s r l true b e a p =
-    record {
-      bytes = b;
-      gives = accepted_layout (read_note s) l (ap (λ (x : Reading). x.answer) (sym e) ∙ a) (ap (λ (x : Reading). x.layout) (sym e) ∙ p);
-    }
-accepted_told s r l false b e a n = λ g. n (ap (λ (x : Reading). x.layout) (e ∙ ap reading g.gives))
-
-pub refused_told : {number offset : ℕ} (s : List ℕ) (r : Reading) (l : Layout) → r ≡ reading (read_note s) → r.answer ≡ Refused number offset → IsNote l s → ⊥
-refused_told s r l e a g =
-    let y = ap (λ (x : Reading). x.answer) (e ∙ ap reading g.gives) in
-    let z : ◌≡◌ {A = ℕ} 0 1 = cc in
-    omega arith
+pub refused_told : {number offset : ℕ} (s : List ℕ) (l : Layout) → refusal number offset ≡ read_note s → IsNote l s → ⊥
+refused_told {number} {offset} s l e g = differ (e ∙ g.gives)
+  where
+    differ : refusal number offset ≡ layout l → ⊥
+    differ p = cc

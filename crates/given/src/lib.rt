@@ -1,7 +1,6 @@
 // Which layouts notes give: refusal 6 of document 01 is for the others.
 #![tactic(auto)]
 
-mod same;
 mod writer;
 
 ghost use Rattle.given.specs.Given.{Given, Tells};
@@ -13,15 +12,9 @@ use groups::Layout;
 fn gives(note: &[u8], l: Layout) -> bool
     ensures { Tells result (IsNote l note.now) }
 {
-    let r = note::read_note(note);
-    let a = r.answer;
-    let b = r.layout;
-    match a {
-        note::Answer::Accepted => same::same_layout(b, l),
-        note::Answer::Refused {
-            number: _,
-            offset: _,
-        } => false,
+    match note::read_note(note) {
+        Ok(read) => read == l,
+        Err(_) => false,
     }
 }
 
@@ -34,6 +27,6 @@ pub fn known(l: Layout) -> bool
         return false;
     }
     let mut buf = [0u8; 96];
-    let n = writer::put_note(&mut buf, l);
+    let n = writer::put_headers(&mut buf, &l.list[..l.groups]);
     gives(&buf[..n], l)
 }

@@ -1,9 +1,12 @@
 -- Believed: document 01, "The layout note": how blocks and rows are numbered, and the bounds on the running totals, with refusal 5 of "When the
 -- store says no". A layout is the groups entered so far; the reader holds one, with its place in the note and the fault that it found.
-use Rattle.std.specs.Prelude.{ℕ, ◌+◌, ◌-◌, cond, get_or, set, replicate, ltb, eqb}
+use Rattle.std.specs.Prelude.{ℕ, ◌+◌, ◌-◌, cond, get_or, set, replicate, ltb, eqb, Result, Ok, Err}
 use Rattle.groups.specs.declared.Group.{Group}
 use Rattle.groups.specs.declared.Layout.{Layout}
+use Rattle.groups.specs.declared.Fault.{Fault}
+use Rattle.groups.specs.declared.Fault.TheVariants.{End, Kind, Body, Extra, Bounds}
 use Rattle.groups.specs.declared.Walk.{Walk}
+use Rattle.groups.specs.declared.Stopped.{Stopped}
 
 -- ---- tests
 
@@ -60,20 +63,45 @@ with_group rows h d len l =
 
 -- ---- the reader's state
 
+-- the layout so far, the place in the note, and the fault found (0: none), whose offset is then the place
+pub record State : Type 0 where
+  pub lay : Layout
+  pub at : ℕ
+  pub fault : ℕ
+
+-- document 01's numbers of the refusals of a note
+abbrev pub number : Fault → ℕ
+number End = 1
+number Kind = 2
+number Body = 3
+number Extra = 4
+number Bounds = 5
+
+-- the state of a walk that goes on, of one that is stopped, and of either
+abbrev pub walking : Walk → State
+walking w = record { lay = w.lay; at = w.at; fault = 0 }
+
+abbrev pub stopped : Stopped → State
+stopped e = record { lay = e.walk.lay; at = e.walk.at; fault = number e.fault }
+
+abbrev pub walked : Result Walk Stopped → State
+walked (Ok w) = walking w
+walked (Err e) = stopped e
+
 -- the reader before the first record
-abbrev pub at_start : Walk
+abbrev pub at_start : State
 at_start = record { lay = blank; at = 0; fault = 0 }
 
 -- a fault: its number, and the offset of the record at fault
-abbrev pub refused_at : ℕ → ℕ → Walk → Walk
+abbrev pub refused_at : ℕ → ℕ → State → State
 refused_at number offset w = record { lay = w.lay; at = offset; fault = number }
 
 -- one group more: `step` bytes of its record are passed
-abbrev pub grown : ℕ → ℕ → ℕ → ℕ → ℕ → Walk → Walk
+abbrev pub grown : ℕ → ℕ → ℕ → ℕ → ℕ → State → State
 grown rows h d len step w = record { lay = with_group rows h d len w.lay; at = w.at + step; fault = 0 }
 
 -- the same, if the running totals allow it
-unfoldable pub entered : ℕ → ℕ → ℕ → ℕ → ℕ → ℕ → Walk → Walk
+unfoldable pub entered : ℕ → ℕ → ℕ → ℕ → ℕ → ℕ → State → State
 entered level rows h d len step w =
     if_eq (bound_passed level rows h d w.lay) 0
     (grown rows h d len step w)
@@ -94,7 +122,7 @@ ended own groups k g =
     }
 
 -- the branch that is the group `own` has ended
-abbrev pub closed : ℕ → Walk → Walk
+abbrev pub closed : ℕ → State → State
 closed own w =
     record {
       lay = record {

@@ -4,7 +4,7 @@
 ghost use Rattle.std.specs.Prelude.{◌≡◌, ◌<◌, ◌≤◌, length};
 ghost use Rattle.note.specs.Note.{word, length_at};
 ghost use Rattle.given.specs.Given.{Tells};
-ghost use Rattle.input.specs.Input.{little, standing_in, Whole};
+ghost use Rattle.input.specs.Input.{standing_in, Whole};
 ghost use Rattle.input.specs.Inner.{Parted};
 
 use plan::Standing;
@@ -14,21 +14,7 @@ fn word(s: &[u8]) -> usize
     requires { 2 ≤ length s.now }
     ensures { (result ≡ word s.now 0 1) × (result < 65536) }
 {
-    groups::wide(s[0]) + 256 * groups::wide(s[1])
-}
-
-// The number in all bytes, the lowest first.
-fn little(s: &[u8]) -> u64
-    requires { length s.now ≤ 8 }
-    ensures { result ≡ little s.now }
-{
-    let mut m: u64 = 0;
-    let mut i = s.len();
-    while 0 < i {
-        i -= 1;
-        m = m * 256 + (groups::wide(s[i]) as u64);
-    }
-    m
+    usize::from(u16::from_le_bytes([s[0], s[1]]))
 }
 
 // Where the part of the input ends that the note reader gets.
@@ -39,24 +25,14 @@ pub fn note_end(input: &[u8]) -> usize
     if size < 4 {
         return size;
     }
-    let end = 2 + word(input);
-    if end < 4 {
-        return 4;
-    }
-    if size < end {
-        return size;
-    }
-    end
+    (2 + word(input)).clamp(4, size)
 }
 
 // Whether the length of the top record, if it is there, is not more than 254.
 pub fn readable(input: &[u8]) -> bool
     ensures { Tells result (2 ≤ length input.now → length_at input.now 0 ≤ 254) }
 {
-    if input.len() < 2 {
-        return true;
-    }
-    word(input) <= 254
+    input.len() < 2 || word(input) <= 254
 }
 
 // Whether L is in range, and L, the marks and n blocks of L bytes are all there is.
@@ -68,13 +44,7 @@ pub fn whole(rest: &[u8], n: usize) -> bool
         return false;
     }
     let len = word(rest);
-    if len < 1 {
-        return false;
-    }
-    if 1024 < len {
-        return false;
-    }
-    rest.len() == 10 + n * len
+    (1..=1024).contains(&len) && rest.len() == 10 + n * len
 }
 
 // L and the marks.
@@ -82,9 +52,10 @@ pub fn standing_in(rest: &[u8]) -> Standing
     requires { 10 ≤ length rest.now }
     ensures { result ≡ standing_in rest.now }
 {
-    let lost = little(&rest[2..10]);
+    let mut marks = [0u8; 8];
+    marks.copy_from_slice(&rest[2..10]);
     Standing {
         len: word(rest),
-        lost: lost,
+        lost: u64::from_le_bytes(marks),
     }
 }

@@ -9,24 +9,25 @@ use lib.ListN.{get_or}
 use Rattle.linear.specs.Sets.{none, insert}
 use Rattle.linear.specs.Greedy.{begin, keeps, skips}
 use Rattle.linear.specs.Solved.{vec, row_of}
-use Rattle.linear.specs.Slots.{slot, Filled, Shape, Taken, Dropped, Stored, Absorbed}
+use Rattle.linear.specs.Slots.{slot, pivot, Filled, Shape, Taken, Dropped, Stored, Absorbed}
+use Rattle.linear.specs.declared.Slot.{Slot}
 use Rattle.linear.proofs.Sets.{insert_same, insert_other}
 use Rattle.linear.proofs.Reduction.{eliminated_more, eliminated_none, within, complete}
 
-module _ {rows order basis pivot : List ℕ} {count j : ℕ} (t : Taken rows order basis pivot count j)
-    {row v basis' pivot' : List ℕ} {r : ℕ} (rb : (k : ℕ) → get_or rows k 0 < 256) (vb : (k : ℕ) → get_or v k 0 < 256)
-    (bb : (k : ℕ) → get_or basis' k 0 < 256) (l : get_or order j 0 < 48)
+module _ {rows order : List ℕ} {slots : List Slot} {count j : ℕ} (t : Taken rows order slots count j)
+    {row v : List ℕ} {slots' : List Slot} {r : ℕ} (rb : (k : ℕ) → get_or rows k 0 < 256) (vb : (k : ℕ) → get_or v k 0 < 256)
+    (l : get_or order j 0 < 48)
     (same : (i : ℕ) → i < 32 → get_or row i 0 ≡ row_of rows (get_or order j 0) i) (f : Filled row (get_or order j 0) 1 v) where
-  taken_drop : Shape basis' pivot' r → Dropped v basis pivot count basis' pivot' r → Taken rows order basis' pivot' r (suc j)
+  taken_drop : Shape slots' r → Dropped v slots count slots' r → Taken rows order slots' r (suc j)
   taken_drop s d =
       record {
         shape = s;
         kept = t.kept;
         choice = skips t.choice (within 48 32 (row_of rows) t.state (vec v) (λ i k. f.row_part i k ∙ same i k) d.zeros);
-        state = rw (d.basis_same, d.pivot_same, d.count_same) t.state;
+        state = rw (d.slots_same, d.count_same) t.state;
       }
 
-  taken_store : Shape basis' pivot' r → Stored v basis pivot count basis' pivot' r → Taken rows order basis' pivot' r (suc j)
+  taken_store : Shape slots' r → Stored v slots count slots' r → Taken rows order slots' r (suc j)
   taken_store s d =
       record {
         shape = s;
@@ -38,21 +39,21 @@ module _ {rows order basis pivot : List ℕ} {count j : ℕ} (t : Taken rows ord
         state = rw (d.count_more, add-one count)
             (eliminated_more 48 32 (row_of rows) t.state (λ u i. rb (u * 32 + i)) (insert b t.kept) b l
             (insert_same b t.kept) (insert_other b t.kept) (vec v) vb (λ i k. f.row_part i k ∙ same i k)
-            f.unit_part d.col d.within d.some (slot basis') (vec pivot') (λ p i. bb (p * 80 + i)) d.old d.old_col d.new
+            f.unit_part d.col d.within d.some (slot slots') (pivot slots') s.byte d.old d.old_col d.new
             d.new_col);
       }
     where
       b : ℕ
       b = get_or order j 0
 
-  pub taken_more : Absorbed v basis pivot count basis' pivot' r → Taken rows order basis' pivot' r (j + 1)
+  pub taken_more : Absorbed v slots count slots' r → Taken rows order slots' r (j + 1)
   taken_more a = rw (add-one j) (⊎_elim (taken_drop a.shape) (taken_store a.shape) a.either)
 
-pub taken_none : (rows order basis pivot : List ℕ) → Shape basis pivot 0 → ((k : ℕ) → get_or basis k 0 < 256) → Taken rows order basis pivot 0 0
-taken_none rows order basis pivot s bb =
+pub taken_none : (rows order : List ℕ) {slots : List Slot} → Shape slots 0 → Taken rows order slots 0 0
+taken_none rows order {slots} s =
     record {
       shape = s;
       kept = none;
       choice = begin;
-      state = eliminated_none 48 32 (row_of rows) none (slot basis) (vec pivot) (λ p i. bb (p * 80 + i)) (λ s l. refl);
+      state = eliminated_none 48 32 (row_of rows) none (slot slots) (pivot slots) s.byte (λ s l. refl);
     }

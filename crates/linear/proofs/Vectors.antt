@@ -3,7 +3,6 @@ use mathlib.Core.List.{List, ◌++◌}
 use mathlib.Core.Logic.{inl, inr}
 use mathlib.Core.Path.{◌≡◌, refl, sym, ap, ap₂, ◌∙◌}
 use Prim.Native.Nat.{ℕ, zero, suc, ◌+◌, ◌*◌, ◌-◌, ◌<◌, ◌≤◌}
-use native.Mathlib.Nat.{zero-add}
 use native.Mathlib.Numerals.{add-one}
 use native.Mathlib.Omega.{arith}
 use native.Mathlib.Decide.{dec_lt, ℕ_discrete}
@@ -13,13 +12,18 @@ use lib.Seq.{get_or-take, get_or-drop, get_or-set_same, get_or-set_other, get_or
 use Rattle.field.specs.Field.{◌⊕◌, mul, inv}
 use Rattle.field.specs.Scaled.{scaled_add}
 use Rattle.field.proofs.Xor.{⊕_zero_l}
-use Rattle.field.proofs.Product.{mul_one_l}
+use Rattle.field.proofs.Product.{mul_lt}
 use Rattle.field.proofs.Scaled.{scaled_length, scaled_at}
-use Rattle.field.proofs.Upto.{Upto}
+use Rattle.std.specs.Prelude.{Some, None, Bool, true, false, not, ◌==◌, position}
+use Rattle.std.proofs.lemmas.Bool.Decides.{nat_tests}
+use Rattle.std.proofs.lemmas.List.Quantifiers.{position-Some}
+use Rattle.std.proofs.lemmas.List.Sums.{fails_before_first}
+use Rattle.std.specs.List.{position_or_len}
 use Rattle.linear.specs.Sums.{put}
 use Rattle.linear.specs.Reduction.{red, Triangular}
 use Rattle.linear.specs.Solved.{vec, row_of}
-use Rattle.linear.specs.Slots.{slot, Cleared, Filled, FirstColumn, Shape, Reduced, Absorbed}
+use Rattle.linear.specs.Slots.{slot, pivot, blank, Filled, Leading, Shape, Reduced, Absorbed}
+use Rattle.linear.specs.declared.Slot.{Slot}
 use Rattle.linear.proofs.Sums.{put_same, put_other, put_none}
 use Rattle.linear.proofs.Reduction.{room}
 
@@ -32,10 +36,6 @@ zeros_at (suc n) (suc i) = zeros_at n i
 
 pub get_d_part : (xs : List ℕ) (a k i : ℕ) → i < k → get_or (take k (drop a xs)) i 0 ≡ get_or xs (a + i) 0
 get_d_part xs a k i l = get_or-take k (drop a xs) i 0 l ∙ get_or-drop a xs i 0
-
--- the part from p * 80 to p * 80 + 80 is slot p
-pub slot_part : (xs : List ℕ) (p i : ℕ) → i < 80 → get_or (take (p * 80 + 80 - p * 80) (drop (p * 80) xs)) i 0 ≡ slot xs p i
-slot_part xs p i l = get_d_part xs (p * 80) (p * 80 + 80 - p * 80) i (omega arith)
 
 -- the part from s * 32 to s * 32 + 32 is row s
 pub row_part : (xs : List ℕ) (s i : ℕ) → i < 32 → get_or (take (s * 32 + 32 - s * 32) (drop (s * 32) xs)) i 0 ≡ row_of xs s i
@@ -78,70 +78,61 @@ pub scaled_onto_zeros : (d : List ℕ) (c : ℕ) (s : List ℕ) → length s ≤
     → (i : ℕ) → get_or (scaled_add d c s) i 0 ≡ mul c (get_or s i 0)
 scaled_onto_zeros d c s l z i = scaled_at d c s l i ∙ ap (λ (x : ℕ). x ⊕ mul c (get_or s i 0)) (z i) ∙ ⊕_zero_l (mul c (get_or s i 0))
 
--- by 1 a copy
-pub scaled_copy : (d s : List ℕ) → length s ≤ length d → ((i : ℕ) → get_or d i 0 ≡ 0) → ((i : ℕ) → get_or s i 0 < 256)
-    → (i : ℕ) → get_or (scaled_add d 1 s) i 0 ≡ get_or s i 0
-scaled_copy d s l z b i = scaled_onto_zeros d 1 s l z i ∙ mul_one_l (get_or s i 0) (b i)
+-- ---- `vector`
 
--- ---- `clear`, `fill`
-
-pub cleared : {v r : List ℕ} (i : ℕ) → length v ≤ i → Upto v (λ (k : ℕ). 0) i r → Cleared v r
-cleared {v} {r} i l u = record { len = u.len; zero = λ k. at k (dec_lt k i) }
-  where
-    at : (k : ℕ) → Dec (k < i) → get_or r k 0 ≡ 0
-    at k (yes h) = u.done k h
-    at k (no h) = get_or-eq_default r 0 (omega (arith, u.len))
-
-module _ {v r : List ℕ} (c : Cleared v r) (l : length v ≡ 80) (row : List ℕ) (k : length row ≡ 32) (bytes : (i : ℕ) → get_or row i 0 < 256)
-    (b e : ℕ) (h : b < 48) where
-  front : List ℕ
-  front = take 32 (drop 0 r)
-
-  front_length : length front ≡ 32
-  unfolding front
-  front_length = simp (length-take, length-drop) (omega (arith, c.len))
-
-  front_zero : (i : ℕ) → get_or front i 0 ≡ 0
-  unfolding front
-  front_zero i = at (dec_lt i 32)
-    where
-      at : Dec (i < 32) → get_or (take 32 (drop 0 r)) i 0 ≡ 0
-      at (yes o) = get_d_part r 0 32 i o ∙ c.zero (0 + i)
-      at (no o) = get_or-eq_default (take 32 (drop 0 r)) 0 (omega (arith, front_length))
-
-  -- r with the row written over its front, and e at block b
-  pub filled : Filled row b e (set (put_mid 0 32 r (scaled_add (take 32 (drop 0 r)) 1 row)) (32 + b) e)
-  unfolding front
+-- a row with 48 zeros behind it, and e at block b
+module _ (row zs : List ℕ) (l : length row ≡ 32) (m : length zs ≡ 48) (z : (i : ℕ) → get_or zs i 0 ≡ 0) (b e : ℕ) (h : b < 48) where
+  pub filled : Filled row b e (set (row ++ zs) (32 + b) e)
   filled =
       record {
-        len = length-set whole (32 + b) e ∙ whole_length;
-        row_part = λ i m.
-            get_or-set_other whole (32 + b) i e 0 (omega arith)
-            ∙ ap (vec whole) (sym (zero-add i))
-            ∙ put_within r copy 0 32 (omega (arith, c.len)) copy_length i m
-            ∙ scaled_copy front row (omega (arith, front_length)) front_zero bytes i;
-        unit_part = λ s m. at s m (ℕ_discrete s b);
+        len = length-set (row ++ zs) (32 + b) e ∙ long;
+        row_part = λ i k. get_or-set_other (row ++ zs) (32 + b) i e 0 (omega arith) ∙ get_or-append row zs 0 i (rw l k);
+        unit_part = λ s k. at s (ℕ_discrete s b);
       }
     where
-      copy : List ℕ
-      copy = scaled_add front 1 row
+      long : length (row ++ zs) ≡ 80
+      long = rw (length-append, l, m) refl
 
-      whole : List ℕ
-      whole = put_mid 0 32 r copy
-
-      copy_length : length copy ≡ 32
-      copy_length = scaled_length front 1 row ∙ front_length
-
-      whole_length : length whole ≡ 80
-      whole_length = put_length r copy 0 32 (omega (arith, c.len)) copy_length ∙ c.len ∙ l
-
-      at : (s : ℕ) → s < 48 → Dec (s ≡ b) → get_or (set whole (32 + b) e) (32 + s) 0 ≡ put b e (λ _. 0) s
-      at s m (yes q) = rw q (get_or-set_same whole (32 + b) e 0 (omega (arith, whole_length)) ∙ sym (put_same b e (λ _. 0)))
-      at s m (no q) =
-          get_or-set_other whole (32 + b) (32 + s) e 0 (omega arith)
-          ∙ put_after r copy 0 32 (omega (arith, c.len)) copy_length (32 + s) (omega arith)
-          ∙ c.zero (32 + s)
+      at : (s : ℕ) → Dec (s ≡ b) → get_or (set (row ++ zs) (32 + b) e) (32 + s) 0 ≡ put b e (λ _. 0) s
+      at s (yes q) = rw q (get_or-set_same (row ++ zs) (32 + b) e 0 (omega (arith, long)) ∙ sym (put_same b e (λ _. 0)))
+      at s (no q) =
+          get_or-set_other (row ++ zs) (32 + b) (32 + s) e 0 (omega arith)
+          ∙ ap (λ (n : ℕ). get_or (row ++ zs) (n + s) 0) (sym l)
+          ∙ get_or-append-add row zs s 0
+          ∙ z s
           ∙ sym (put_other b e (λ _. 0) s q)
+
+-- ---- `first`
+
+abbrev pub is_some_byte : ℕ → Bool
+is_some_byte x = not (x == 0)
+
+byte_none : (x : ℕ) → is_some_byte x ≡ false → x ≡ 0
+byte_none x e = grind (arith, nat_tests)
+
+byte_some : (x : ℕ) → is_some_byte x ≡ true → 0 < x
+byte_some x e = grind (arith, nat_tests)
+
+-- what `position` finds among the first 32 bytes
+module _ (v : List ℕ) (l : 32 ≤ length v) where
+  long : length (take 32 v) ≡ 32
+  long = rw length-take (omega arith)
+
+  pub leading : {i : ℕ} → Some i ≡ position is_some_byte (take 32 v) → Leading v i
+  leading {i} e =
+      let found = position-Some is_some_byte (take 32 v) i 0 (sym e) in
+      let within : i < 32 = omega (arith, found.0, long) in
+      record {
+        within = within;
+        none = λ k h. sym (get_or-take 32 v k 0 (omega arith)) ∙ byte_none (get_or (take 32 v) k 0) (found.2 k h);
+        some = rw (get_or-take 32 v i 0 within) at (byte_some (get_or (take 32 v) i 0) found.1);
+      }
+
+  pub row_zero : None ≡ position is_some_byte (take 32 v) → (k : ℕ) → k < 32 → get_or v k 0 ≡ 0
+  row_zero e k h =
+      let past : length (take 32 v) ≤ position_or_len is_some_byte (take 32 v) = grind (arith, nat_tests) in
+      sym (get_or-take 32 v k 0 h)
+      ∙ byte_none (get_or (take 32 v) k 0) (fails_before_first is_some_byte (take 32 v) k 0 (omega (arith, long)))
 
 -- a vector of a row of bytes and an empty expression is one of bytes
 pub filled_byte : {row v : List ℕ} {b : ℕ} → Filled row b 0 v → ((k : ℕ) → get_or row k 0 < 256) → (k : ℕ) → get_or v k 0 < 256
@@ -155,117 +146,100 @@ filled_byte {row} {v} {b} f h k = at (dec_lt k 32) (dec_lt k 80)
         omega (arith, ap (vec v) e)
     at (no l) (no m) = omega (arith, get_or-eq_default v 0 {n = k} (omega (arith, f.len)))
 
+-- ---- slots that are not in use
+
+slots_zero : (n p i : ℕ) → slot (replicate n (record { vector = replicate 80 0; pivot = 0 })) p i ≡ 0
+slots_zero zero p i = refl
+slots_zero (suc n) zero i = zeros_at 80 i
+slots_zero (suc n) (suc p) i = slots_zero n p i
+
+pub shape_none : Shape (replicate 32 (record { vector = replicate 80 0; pivot = 0 })) 0
+shape_none =
+    record { long = refl; most = omega arith; low = λ p l. absurd (omega arith); byte = λ p i. omega (arith, slots_zero 32 p i) }
+
 -- ---- `reduce`
 
-pub reduced_none : (v basis pivot : List ℕ) → length v ≡ 80 → Reduced v basis pivot 0 v
+pub reduced_none : (v : List ℕ) (slots : List Slot) → length v ≡ 80 → Reduced v slots 0 v
 unfolding red
-reduced_none v basis pivot l = record { len = l; at = λ i k. refl }
+reduced_none v slots l = record { len = l; at = λ i k. refl }
 
--- one slot more is taken out
-pub reduced_more : {v basis pivot r : List ℕ} {p : ℕ} → get_or pivot p 0 < 80 → p * 80 + 80 ≤ length basis → Reduced v basis pivot p r
-    → Reduced v basis pivot (p + 1) (scaled_add r (get_or r (get_or pivot p 0) 0) (take (p * 80 + 80 - p * 80) (drop (p * 80) basis)))
+-- one slot more, s, is taken out
+pub reduced_more : {v r : List ℕ} {slots : List Slot} {p : ℕ} {s : Slot} → s ≡ get_or slots p blank → s.pivot < 80 → length s.vector ≤ 80
+    → Reduced v slots p r → Reduced v slots (p + 1) (scaled_add r (get_or r s.pivot 0) s.vector)
 unfolding red
-reduced_more {v} {basis} {pivot} {r} {p} l m x =
-    record { len = scaled_length r c part ∙ x.len; at = λ i k. rw (add-one p) (at i k) }
+reduced_more {v} {r} {slots} {p} {s} e l m x =
+    record { len = scaled_length r c s.vector ∙ x.len; at = λ i k. rw (add-one p) (at i k) }
   where
     c : ℕ
-    c = get_or r (get_or pivot p 0) 0
+    c = get_or r s.pivot 0
 
-    part : List ℕ
-    part = take (p * 80 + 80 - p * 80) (drop (p * 80) basis)
-
-    fits : length part ≤ length r
-    fits = simp (length-take, length-drop) (omega (arith, x.len))
-
-    at : (i : ℕ) → i < 80 → get_or (scaled_add r c part) i 0 ≡ red (slot basis) (vec pivot) (suc p) (vec v) i
-    at i k = scaled_at r c part fits i ∙ ap₂ ◌⊕◌ (x.at i k) (ap₂ mul (x.at (get_or pivot p 0) l) (slot_part basis p i k))
+    at : (i : ℕ) → i < 80 → get_or (scaled_add r c s.vector) i 0 ≡ red (slot slots) (pivot slots) (suc p) (vec v) i
+    at i k =
+        scaled_at r c s.vector (omega (arith, x.len)) i
+        ∙ ap₂ ◌⊕◌ (x.at i k)
+        (ap₂ mul (x.at s.pivot l ∙ ap (λ (y : Slot). red (slot slots) (pivot slots) p (vec v) y.pivot) e) (ap (λ (y : Slot). get_or y.vector i 0) e))
 
 -- ---- `absorb`
 
 -- where something of the row is left, a slot is free
-pub slot_free : {v basis pivot r : List ℕ} {count i : ℕ} → Triangular 32 (slot basis) (vec pivot) count → ((k : ℕ) → get_or v k 0 < 256)
-    → Reduced v basis pivot count r → FirstColumn r i → i < 32 → count < 32
-slot_free {v} {basis} {pivot} {r} {count} {i} T vb x f l =
-    room 32 (slot basis) (vec pivot) (vec v) vb count T i l (rw (x.at i (omega arith)) at (f.some l))
+pub slot_free : {v r : List ℕ} {slots : List Slot} {count i : ℕ} → Triangular 32 (slot slots) (pivot slots) count → ((k : ℕ) → get_or v k 0 < 256)
+    → Reduced v slots count r → Leading r i → count < 32
+slot_free {v} {r} {slots} {count} {i} T vb x f =
+    room 32 (slot slots) (pivot slots) (vec v) vb count T i f.within (rw (x.at i (omega (arith, f.within))) at f.some)
 
-module _ {v basis pivot r : List ℕ} {count i : ℕ} (x : Reduced v basis pivot count r) (f : FirstColumn r i) (s : Shape basis pivot count) where
-  pub dropped : 32 ≤ i → Absorbed v basis pivot count basis pivot count
-  dropped l =
+module _ {v r : List ℕ} {slots : List Slot} {count : ℕ} (x : Reduced v slots count r) (s : Shape slots count) where
+  pub dropped : ((k : ℕ) → k < 32 → get_or r k 0 ≡ 0) → Absorbed v slots count slots count
+  dropped f =
       record {
         shape = s;
-        either = inl (record {
-          count_same = refl;
-          basis_same = refl;
-          pivot_same = refl;
-          zeros = λ j k. sym (x.at j (omega arith)) ∙ f.none j (omega arith);
-        });
+        either = inl (record { count_same = refl; slots_same = refl; zeros = λ j k. sym (x.at j (omega arith)) ∙ f j k });
       }
 
-  module _ {c : ℕ} (l : i < 32) (m : count < 32) (e : c ≡ inv (get_or r i 0)) where
-    a : ℕ
-    a = count * 80
+  -- the multiple c of r is written onto zeros
+  module _ {c i : ℕ} (f : Leading r i) (m : count < 32) (e : c ≡ inv (get_or r i 0)) (zs : List ℕ) (n : length zs ≡ 80)
+      (z : (k : ℕ) → get_or zs k 0 ≡ 0) where
+    one : Slot
+    one = record { vector = scaled_add zs c r; pivot = i }
 
-    k : ℕ
-    k = count * 80 + 80 - count * 80
+    new : (j : ℕ) → get_or (scaled_add zs c r) j 0 ≡ mul c (get_or r j 0)
+    new j = scaled_onto_zeros zs c r (omega (arith, n, x.len)) z j
 
-    part : List ℕ
-    unfolding a k
-    part = take k (drop a basis)
+    here : get_or (set slots count one) count blank ≡ one
+    here = get_or-set_same slots count one blank (omega (arith, s.long))
 
-    ys : List ℕ
-    ys = scaled_add part c r
+    there : (p : ℕ) → (p ≡ count → ⊥) → get_or (set slots count one) p blank ≡ get_or slots p blank
+    there p q = get_or-set_other slots count p one blank q
 
-    k_is : k ≡ 80
-    unfolding k
-    k_is = omega arith
+    low : (p : ℕ) → p < count + 1 → Dec (p ≡ count) → pivot (set slots count one) p < 32
+    unfolding one
+    low p h (yes q) = omega (arith, ap (pivot (set slots count one)) q, ap (λ (y : Slot). y.pivot) here, f.within)
+    low p h (no q) = omega (arith, ap (λ (y : Slot). y.pivot) (there p q), s.low p (omega arith))
 
-    room_for : a + k ≤ length basis
-    unfolding a
-    room_for = omega (arith, s.flat, k_is)
+    byte : (p j : ℕ) → Dec (p ≡ count) → slot (set slots count one) p j < 256
+    unfolding one
+    byte p j (yes q) =
+        omega (arith, ap (λ (k : ℕ). slot (set slots count one) k j) q, ap (λ (y : Slot). get_or y.vector j 0) here, new j, mul_lt c (get_or r j 0))
+    byte p j (no q) = rw (there p q) (s.byte p j)
 
-    part_length : length part ≡ k
-    unfolding part
-    part_length = simp (length-take, length-drop) (omega (arith, room_for))
-
-    ys_length : length ys ≡ k
-    unfolding ys
-    ys_length = scaled_length part c r ∙ part_length
-
-    part_zero : (j : ℕ) → get_or part j 0 ≡ 0
-    unfolding a part
-    part_zero j = at (dec_lt j k)
-      where
-        at : Dec (j < k) → get_or (take k (drop a basis)) j 0 ≡ 0
-        at (yes h) = get_d_part basis a k j h ∙ s.fresh (a + j) (omega arith)
-        at (no h) = get_or-eq_default (take k (drop a basis)) 0 (omega (arith, part_length))
-
-    low : (p : ℕ) → p < count + 1 → Dec (p ≡ count) → get_or (set pivot count i) p 0 < 32
-    low p h (yes q) = rw (q, get_or-set_same pivot count i 0 (omega (arith, s.cols))) l
-    low p h (no q) = rw (get_or-set_other pivot count p i 0 q) (s.low p (omega arith))
-
-    pub stored : Absorbed v basis pivot count
-        (put_mid (count * 80) (count * 80 + 80 - count * 80) basis
-        (scaled_add (take (count * 80 + 80 - count * 80) (drop (count * 80) basis)) c r)) (set pivot count i) (count + 1)
-    unfolding a k part ys
+    pub stored : Absorbed v slots count (set slots count (record { vector = scaled_add zs c r; pivot = i })) (count + 1)
+    unfolding one
     stored =
         record {
           shape = record {
-            flat = put_length basis ys a k room_for ys_length ∙ s.flat;
-            cols = length-set pivot count i ∙ s.cols;
+            long = length-set slots count one ∙ s.long;
             most = omega arith;
             low = λ p h. low p h (ℕ_discrete p count);
-            fresh = λ j h. put_after basis ys a k room_for ys_length j (omega (arith, k_is)) ∙ s.fresh j (omega arith);
+            byte = λ p j. byte p j (ℕ_discrete p count);
           };
           either = inr (record {
             count_more = refl;
             col = i;
-            within = l;
-            some = rw (x.at i (omega arith)) at (f.some l);
-            old = λ p j h q. put_before basis ys a k room_for ys_length (p * 80 + j) (omega arith);
-            old_col = λ p h. get_or-set_other pivot count p i 0 (omega arith);
-            new = λ j q. put_within basis ys a k room_for ys_length j (omega (arith, k_is))
-                ∙ scaled_onto_zeros part c r (omega (arith, part_length, k_is, x.len)) part_zero j
-                ∙ ap₂ mul (e ∙ ap inv (x.at i (omega arith))) (x.at j q);
-            new_col = get_or-set_same pivot count i 0 (omega (arith, s.cols));
+            within = f.within;
+            some = rw (x.at i (omega (arith, f.within))) at f.some;
+            old = λ p j h q. ap (λ (y : Slot). get_or y.vector j 0) (there p (omega arith));
+            old_col = λ p h. ap (λ (y : Slot). y.pivot) (there p (omega arith));
+            new = λ j q. ap (λ (y : Slot). get_or y.vector j 0) here ∙ new j
+                ∙ ap₂ mul (e ∙ ap inv (x.at i (omega (arith, f.within)))) (x.at j q);
+            new_col = ap (λ (y : Slot). y.pivot) here;
           });
         }

@@ -1,9 +1,8 @@
 -- Believed: document 01, "The plan": what the elimination answers. A matrix comes as 48 rows of 32 bytes, one after another; one of
 -- fewer blocks or columns stands in this frame with zeros round it (proofs/Frames). An order of survivors comes as a list of block numbers.
-use Rattle.std.specs.Prelude.{List, true, false, ◌≡◌, ℕ, ◌+◌, ◌*◌, ◌<◌, ◌≤◌, get_or, length}
+use Rattle.std.specs.Prelude.{List, Option, ◌≡◌, ℕ, ◌+◌, ◌*◌, ◌<◌, ◌≤◌, get_or, length, IfSome, IfNone}
 use Rattle.linear.specs.Combinations.{Combo}
 use Rattle.linear.specs.Greedy.{visited, IsPlan}
-use Rattle.linear.specs.declared.Answer.{Answer}
 
 -- a list of bytes as a vector
 abbrev pub vec : List ℕ → ℕ → ℕ
@@ -20,9 +19,8 @@ pub record Survivors (rows order : List ℕ) (m : ℕ) : Type 0 where
   pub below : (p : ℕ) → p < m → get_or order p 0 < 48
 
 -- what `solve` answers: the coefficients by block number of THE combination over the kept rows, or that the target is no combination of the
--- survivors' rows at all; then the coefficients are zeros. At most one answer fits (`solved_unique` in proofs/Answers)
-pub record Solved (rows order : List ℕ) (m : ℕ) (target : List ℕ) (a : Answer) : Type 0 where
-  pub long : length a.coef ≡ 48
-  pub plan : a.found ≡ true → IsPlan 48 32 (row_of rows) (vec order) m (vec target) (vec a.coef)
-  pub none : a.found ≡ false → Combo 48 32 (row_of rows) (visited (vec order) m) (vec target) → ⊥
-  pub blank : a.found ≡ false → (s : ℕ) → get_or a.coef s 0 ≡ 0
+-- survivors' rows at all. At most one answer fits (`solved_unique` in proofs/Answers)
+pub record Solved (rows order : List ℕ) (m : ℕ) (target : List ℕ) (a : Option (List ℕ)) : Type 0 where
+  pub long : IfSome a (λ c. length c ≡ 48)
+  pub plan : IfSome a (λ c. IsPlan 48 32 (row_of rows) (vec order) m (vec target) (vec c))
+  pub none : IfNone a (Combo 48 32 (row_of rows) (visited (vec order) m) (vec target) → ⊥)

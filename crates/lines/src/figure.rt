@@ -1,33 +1,32 @@
 // The limits and the figures of a price.
-use crate::show;
-use crate::show::Output;
-use std::io::Write;
+use std::fmt;
+use std::fmt::{Display, Formatter};
 
 // The number of these 64 bits. Where its exponent is all ones and its fraction is not 0 it is a not-a-number.
 pub fn limit(bits: u64) -> f64 {
-    if bits % 9223372036854775808 / 4503599627370496 != 2047 {
-        return f64::from_bits(bits);
+    if bits % 0x8000_0000_0000_0000 <= 0x7ff0_0000_0000_0000 {
+        f64::from_bits(bits)
+    } else {
+        f64::NAN
     }
-    if bits % 4503599627370496 == 0 {
-        return f64::from_bits(bits);
-    }
-    0.0 / 0.0
 }
 
-// The smallest number whose quotient by k is x; 2048 if it is not below that.
-pub fn numerator(x: f64, k: u32) -> u64 {
-    let mut q: u32 = 0;
-    while q < 2048 {
-        if x == (q as f64) / (k as f64) {
-            return q as u64;
-        }
-        q += 1;
-    }
-    2048
+// The smallest number below 2048 whose quotient by k is x.
+pub fn numerator(x: f64, k: u32) -> Option<u32> {
+    (0..2048).find(|q| x == f64::from(*q) / f64::from(k))
 }
 
-// Words, and a figure as a fraction over k.
-pub fn fraction<W: Write>(to: &mut Output<W>, words: &[u8], x: f64, k: u32) {
-    show::count(to, words, numerator(x, k));
-    show::count(to, b"/", k as u64);
+// A figure as a fraction over k; its numerator is 2048 where there is none below that.
+#[derive(Clone, Copy)]
+pub struct Fraction {
+    pub x: f64,
+    pub k: u32,
+}
+
+impl Display for Fraction {
+    fn fmt<W: fmt::Write>(&self, f: &mut Formatter<W>) -> fmt::Result {
+        let q = numerator(self.x, self.k).unwrap_or(2048);
+        let k = self.k;
+        write!(f, "{q}/{k}")
+    }
 }

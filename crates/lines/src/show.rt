@@ -1,11 +1,15 @@
 // What is written: words, numbers and bytes.
-ghost use Rattle.std.specs.Prelude.{◌≡◌, ◌≤◌, length};
+ghost use Rattle.std.specs.Prelude.{Some};
+ghost use Rattle.lines.specs.Shown.{Shown};
 
-use crate::fields::wide;
-use std::io;
+use arrayvec::ArrayString;
+use plan::Plan;
+use std::fmt::{Display, Formatter, Write as _};
 use std::io::Write;
+use std::{fmt, io};
 
 // Where answers are written. The first write that fails is kept, and nothing is written behind it.
+// Stays: what was written is kept beside the writer. With a Result and `?` in each function, those that cannot fail could.
 #[derive(Drop)]
 pub struct Output<W> {
     writer: W,
@@ -26,119 +30,82 @@ impl<W: Write + Drop> Output<W> {
     }
 }
 
-pub fn text<W: Write>(to: &mut Output<W>, words: &[u8]) {
-    if to.written.is_ok() {
-        to.written = to.writer.write_all(words);
-    }
-}
-
-// Words, and a number right behind them.
-pub fn count<W: Write>(to: &mut Output<W>, words: &[u8], n: u64) {
-    text(to, words);
-    if to.written.is_ok() {
-        to.written = write!(to.writer, "{n}");
-    }
-}
-
-pub fn number<W: Write>(to: &mut Output<W>, n: u64) {
-    count(to, b" ", n);
-}
-
-pub fn end<W: Write>(to: &mut Output<W>) {
-    text(to, b"\n");
-}
-
-// The first bytes as numbers, `most` of them.
-pub fn list<W: Write>(to: &mut Output<W>, bytes: &[u8], most: usize) {
-    let mut i: usize = 0;
-    while i < bytes.len() {
-        if i < most {
-            number(to, wide(bytes[i]));
+impl<W: Write> Output<W> {
+    // Writes bytes as they stand.
+    pub fn text(&mut self, words: &[u8])
+        ensures { Shown W.contents (Some words.now) self.old self.new }
+    {
+        if self.written.is_ok() {
+            self.written = self.writer.write_all(words);
         }
-        i += 1;
+    }
+
+    // Writes what a format makes.
+    pub fn print<D: Display + Drop>(&mut self, words: D)
+        ensures { Shown W.contents (D.output words) self.old self.new }
+    {
+        if self.written.is_ok() {
+            self.written = write!(self.writer, "{words}");
+        }
     }
 }
 
-// A plan's items: `reads` blocks, each with its coefficient.
-pub fn items<W: Write>(to: &mut Output<W>, block: &[u8], coef: &[u8], reads: usize)
-    requires block_len { length block.now ≡ 32 }
-    requires coef_len { length coef.now ≡ 32 }
-{
-    let mut i: usize = 0;
-    while i < 32 {
-        if i < reads {
-            number(to, wide(block[i]));
-            count(to, b"*", wide(coef[i]));
+// Bytes as numbers, a space before each.
+#[derive(Clone, Copy)]
+pub struct Row<'a>(pub &'a [u8]);
+
+impl Display for Row<'_> {
+    fn fmt<W: fmt::Write>(&self, f: &mut Formatter<W>) -> fmt::Result {
+        for b in self.0 {
+            write!(f, " {b}")?;
         }
-        i += 1;
+        Ok(())
+    }
+}
+
+// A plan's items: the blocks that it reads, each with its coefficient, a space before each.
+#[derive(Clone, Copy)]
+pub struct Items<'a>(pub &'a Plan);
+
+impl Display for Items<'_> {
+    fn fmt<W: fmt::Write>(&self, f: &mut Formatter<W>) -> fmt::Result {
+        let plan = self.0;
+        for (b, c) in plan.block.iter().zip(&plan.coef).take(plan.reads) {
+            write!(f, " {b}*{c}")?;
+        }
+        Ok(())
     }
 }
 
 // The checksum of bytes that are too many to be listed.
 fn checksum(bytes: &[u8]) -> u64 {
-    let mut c: u64 = 1;
-    let mut i: usize = 0;
-    while i < bytes.len() {
-        c = (c * 257 + wide(bytes[i])) % 4294967291;
-        i += 1;
+    let mut c = 1;
+    for b in bytes {
+        c = (c * 257 + u64::from(*b)) % 4294967291;
     }
     c
 }
 
-// The hexadecimal digit of x modulo 16.
-fn digit(x: u8) -> u8 {
-    let d = x % 16;
-    if d < 10 {
-        return d + 48;
-    }
-    d + 87
-}
+// Bytes, or what stands for them: two digits for each byte, `-` for none, and a checksum for more than 64.
+#[derive(Clone, Copy)]
+pub struct Bytes<'a>(pub &'a [u8]);
 
-// The first digit of a byte, or its second.
-fn half(b: u8, second: bool) -> u8 {
-    if second {
-        return digit(b);
+impl Display for Bytes<'_> {
+    fn fmt<W: fmt::Write>(&self, f: &mut Formatter<W>) -> fmt::Result {
+        let bytes = self.0;
+        match bytes.len() {
+            0 => write!(f, "-"),
+            1..=64 => {
+                let mut digits = ArrayString::<128>::new();
+                for b in bytes {
+                    write!(digits, "{b:02x}")?;
+                }
+                f.write_str(digits.as_str())
+            }
+            _ => {
+                let c = checksum(bytes);
+                write!(f, "#{c}")
+            }
+        }
     }
-    digit(b / 16)
-}
-
-// Two digits for each byte.
-fn digits(bytes: &[u8], out: &mut [u8])
-    requires { (length bytes.now ≤ 64) × (length out.old ≡ 128) }
-{
-    let n = 2 * bytes.len();
-    let mut j: usize = 0;
-    while j < n {
-        out[j] = half(bytes[j / 2], j % 2 == 1);
-        j += 1;
-    }
-}
-
-fn hexadecimal<W: Write>(to: &mut Output<W>, bytes: &[u8])
-    requires { length bytes.now ≤ 64 }
-{
-    let mut out = [0u8; 128];
-    digits(bytes, &mut out);
-    let n = 2 * bytes.len();
-    text(to, &out[0..n]);
-}
-
-// Bytes, or what stands for them, behind a space.
-pub fn bytes<W: Write>(to: &mut Output<W>, bytes: &[u8]) {
-    if bytes.len() == 0 {
-        text(to, b" -");
-        return;
-    }
-    if 64 < bytes.len() {
-        count(to, b" #", checksum(bytes));
-        return;
-    }
-    text(to, b" ");
-    hexadecimal(to, bytes);
-}
-
-// Bytes that end the line.
-pub fn last<W: Write>(to: &mut Output<W>, part: &[u8]) {
-    bytes(to, part);
-    end(to);
 }

@@ -11,6 +11,7 @@ pub fn read_full<R: Read>(from: &mut R, buf: &mut [u8]) -> io::Result<usize>
     ensures bytes { IfOk result (λ n. Consumes (R.remaining from.old) (R.remaining from.new) (take n buf.new)) }
     ensures end { IfOk result (λ n. n < length buf.new → IsAtEnd (R.remaining from.new)) }
 {
+    // Stays: a count. No index moves one by one here, each read says how many bytes it gave.
     let mut done: usize = 0;
     while done < buf.len() {
         let n = from.read(&mut buf[done..])?;

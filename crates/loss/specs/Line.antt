@@ -1,16 +1,15 @@
 -- Believed: document 01, "A depot pair worked through": the line of a lost block.
-use Rattle.std.specs.Prelude.{List, [], ◌∷◌, ◌++◌, ℕ}
+use Rattle.std.specs.Prelude.{List, [], ◌∷◌, ◌++◌, ℕ, Result, Ok, Err}
 use Rattle.plan.specs.declared.Plan.{Plan}
-use Rattle.plan.specs.declared.Answer.{Answer}
-use Rattle.plan.specs.declared.Answer.TheVariants.{Done, Refused}
-use Rattle.plan.specs.declared.Planned.{Planned}
+use Rattle.plan.specs.declared.Refusal.{Refusal}
+use Rattle.plan.specs.Refusals.{number}
 use Rattle.text.specs.Text.{decimal, items_text}
 
 -- of a lost block: its plan, or the number of the refusal
-abbrev pub plan_text : Answer → Plan → List ℕ
-plan_text Done p = items_text p.block p.coef p.reads
-plan_text (Refused number) p = (32 ∷ []) ++ decimal number
+abbrev pub plan_text : Result Plan Refusal → List ℕ
+plan_text (Ok p) = items_text p.block p.coef p.reads
+plan_text (Err e) = (32 ∷ []) ++ decimal (number e)
 
 -- "lost b", and what is answered to the question for its plan
-abbrev pub line_of : ℕ → Planned → List ℕ
-line_of b r = (108 ∷ 111 ∷ 115 ∷ 116 ∷ 32 ∷ []) ++ decimal b ++ plan_text r.answer r.plan ++ (10 ∷ [])
+abbrev pub line_of : ℕ → Result Plan Refusal → List ℕ
+line_of b r = (108 ∷ 111 ∷ 115 ∷ 116 ∷ 32 ∷ []) ++ decimal b ++ plan_text r ++ (10 ∷ [])

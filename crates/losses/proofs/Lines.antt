@@ -1,11 +1,12 @@
 -- Proved: how long what is printed of a lost block can be, and that the lines of the blocks go on from one block to the next.
 use Prim.Native.Nat.{ℕ, ◌+◌, ◌*◌, ◌<◌, ◌≤◌}
-use mathlib.Core.Path.{◌≡◌, refl, sym, subst}
+use mathlib.Core.Path.{◌≡◌, sym, subst}
 use mathlib.Core.Bool.{true, false}
 use mathlib.Core.List.{List, [], ◌++◌, append-nil}
 use native.Mathlib.Omega.{arith}
 use native.Mathlib.Numerals.{add-one}
 use lib.ListN.{length, get_or, length-append}
+use Rattle.std.specs.Prelude.{Result, Ok, Err, IfOk}
 use Rattle.linear.specs.Sets.{tally}
 use Rattle.linear.proofs.Existence.{plan_few}
 use Rattle.groups.specs.declared.Layout.{Layout}
@@ -19,11 +20,10 @@ use Rattle.calls.proofs.Needs.{undone, done_met}
 use Rattle.calls.proofs.Answers.{repair_met}
 use Rattle.plan.specs.declared.Standing.{Standing}
 use Rattle.plan.specs.declared.Plan.{Plan}
-use Rattle.plan.specs.declared.Answer.{Answer}
-use Rattle.plan.specs.declared.Answer.TheVariants.{Done, Refused}
-use Rattle.plan.specs.declared.Planned.{Planned}
+use Rattle.plan.specs.declared.Refusal.{Refusal}
 use Rattle.plan.specs.Codes.{code_of, InRange, front}
 use Rattle.plan.specs.Plans.{IsListed, Plans}
+use Rattle.plan.specs.Refusals.{number}
 use Rattle.plan.proofs.Codes.{code_proper}
 use Rattle.plan.proofs.Listings.{Listed, list_of_listed, entry_below}
 use Rattle.loss.specs.Line.{plan_text, line_of}
@@ -41,19 +41,20 @@ pub record Short (p : Plan) : Type 0 where
   pub reads : p.reads ≤ 32
   pub blocks : (i : ℕ) → i < p.reads → get_or p.block i 0 < 48
 
-module _ (l : Layout) (st : Standing) (b : ℕ) {r : Planned} (x : Plans l st b r) where
-  planned_short : r.answer ≡ Done → Short r.plan
-  planned_short e =
+module _ (l : Layout) (st : Standing) (b : ℕ) where
+  pub plan_short : (r : Result Plan Refusal) → Plans l st b r → IfOk r Short
+  plan_short (Err e) x = tt
+  plan_short (Ok p) x =
       record {
         reads = omega (arith, list.reads, few);
         blocks = λ i h. omega (arith, entry_below list i h, (given_proper l given).n);
       }
     where
-      y : IsListed l st.len st.lost b r.plan
-      y = x.plan e
+      y : IsListed l st.len st.lost b p
+      y = x.plan
 
       accepted : Verdict (front l st (InRange st.len)) (code_of l st.len) (marked st.lost) (repair b) done
-      accepted = rw e at x.verdict
+      accepted = x.verdict
 
       given : Given l
       given = (done_met (undone _) accepted.first).0
@@ -66,23 +67,20 @@ module _ (l : Layout) (st : Standing) (b : ℕ) {r : Planned} (x : Plans l st b 
             plan_few (blocks l) l.k (row l) (row_byte l) _ (λ p h. (code_proper l given st.len).below (marked st.lost) b p (repair_met accepted).0 h) y.plan,
           )
 
-      list : Listed y.coef (blocks l) r.plan
+      list : Listed y.coef (blocks l) p
       list = subst (λ (p : Plan). Listed y.coef (blocks l) p) (sym y.listed) (list_of_listed y.coef (blocks l) few)
 
-  pub plan_short : Short r.plan
-  plan_short = at r.answer refl
-    where
-      at : (a : Answer) → r.answer ≡ a → Short r.plan
-      at Done e = planned_short e
-      at (Refused number) e = rw (x.nothing number e) (record { reads = omega arith; blocks = λ i h. absurd (omega arith) })
+pub reads_short : (r : Result Plan Refusal) → IfOk r Short → IfOk r (λ p. p.reads ≤ 32)
+reads_short (Ok p) s = s.reads
+reads_short (Err e) s = tt
 
-text_short : (a : Answer) (p : Plan) → Short p → length (plan_text a p) ≤ 224
-text_short Done p s = omega (arith, s.reads, items_short p.block p.coef p.reads s.blocks)
-text_short (Refused number) p s = omega (arith, decimal_short number)
+text_short : (r : Result Plan Refusal) → IfOk r Short → length (plan_text r) ≤ 224
+text_short (Ok p) s = omega (arith, s.reads, items_short p.block p.coef p.reads s.blocks)
+text_short (Err e) s = omega (arith, decimal_short (number e))
 
-pub line_short : (b : ℕ) (r : Planned) → b < 48 → Short r.plan → length (line_of b r) ≤ 232
+pub line_short : (b : ℕ) (r : Result Plan Refusal) → b < 48 → IfOk r Short → length (line_of b r) ≤ 232
 line_short b r h s =
-    simp length-append (omega (arith, decimal_below b (omega arith), text_short r.answer r.plan s))
+    simp length-append (omega (arith, decimal_below b (omega arith), text_short r s))
 
 -- ---- lines
 
@@ -91,10 +89,10 @@ module _ (l : Layout) (st : Standing) where
   goes_present b at a e =
       record { text = []; holds = λ f x. rw (append-nil f) (present x e); short = omega arith; put = put_nothing at a }
 
-  pub goes_lost : (b : ℕ) {at e : ℕ} {a c : List ℕ} {r : Planned} → b < 48 → marked st.lost b ≡ true → Plans l st b r
+  pub goes_lost : (b : ℕ) {at e : ℕ} {a c : List ℕ} {r : Result Plan Refusal} → b < 48 → marked st.lost b ≡ true → Plans l st b r
       → Put (line_of b r) at a c e → Written (Goes l st b) 232 at a c e
   goes_lost b {r = r} h o x p =
-      record { text = line_of b r; holds = λ f y. lost y o x; short = line_short b r h (plan_short l st b x); put = p }
+      record { text = line_of b r; holds = λ f y. lost y o x; short = line_short b r h (plan_short l st b r x); put = p }
 
   pub lines_none : (at : ℕ) (a : List ℕ) → Written (Lines l st 0) 0 at a a at
   lines_none at a = record { text = []; holds = none; short = omega arith; put = put_nothing at a }

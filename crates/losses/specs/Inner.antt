@@ -1,5 +1,6 @@
 -- Inside: what the functions that put lines promise. The contract of `report` names nothing of it.
-use Rattle.std.specs.Prelude.{List, ◌++◌, ℕ, suc, ◌≤◌, length}
+use Rattle.std.specs.Prelude.{◌≡◌, List, ◌++◌, ℕ, suc, ◌≤◌, length}
+use Rattle.text.specs.declared.Writer.{Writer}
 use Rattle.text.specs.Put.{Put}
 use Rattle.groups.specs.declared.Layout.{Layout}
 use Rattle.plan.specs.declared.Standing.{Standing}
@@ -11,6 +12,11 @@ pub record Written (P : List ℕ → Type 0) (most at : ℕ) (old new : List ℕ
   pub holds : P text
   pub short : length text ≤ most
   pub put : Put text at old new r
+
+-- the same by a writer, which still holds its buffer
+pub record WrittenBy (P : List ℕ → Type 0) (most : ℕ) (old new : Writer) : Type 0 where
+  pub written : Written P most old.at old.out.now new.out.now new.at
+  pub same : new.out.ghost_name ≡ old.out.ghost_name
 
 -- a text that goes on from the lines of the blocks below b to those of b too
 abbrev pub Goes : Layout → Standing → ℕ → List ℕ → Type 0

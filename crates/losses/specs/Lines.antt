@@ -1,9 +1,10 @@
 -- Believed: document 01, "A depot pair worked through": the lines of the lost blocks.
-use Rattle.std.specs.Prelude.{◌≡◌, true, false, List, [], ◌++◌, ℕ, suc}
+use Rattle.std.specs.Prelude.{◌≡◌, true, false, List, [], ◌++◌, ℕ, suc, Result}
 use Rattle.groups.specs.declared.Layout.{Layout}
 use Rattle.marks.specs.Marks.{marked}
 use Rattle.plan.specs.declared.Standing.{Standing}
-use Rattle.plan.specs.declared.Planned.{Planned}
+use Rattle.plan.specs.declared.Plan.{Plan}
+use Rattle.plan.specs.declared.Refusal.{Refusal}
 use Rattle.plan.specs.Plans.{Plans}
 use Rattle.loss.specs.Line.{line_of}
 
@@ -11,5 +12,5 @@ use Rattle.loss.specs.Line.{line_of}
 pub data Lines (l : Layout) (st : Standing) : ℕ → List ℕ → Type 0 where
   none : Lines l st 0 []
   present : {b : ℕ} {text : List ℕ} → Lines l st b text → marked st.lost b ≡ false → Lines l st (suc b) text
-  lost : {b : ℕ} {text : List ℕ} {r : Planned} → Lines l st b text → marked st.lost b ≡ true → Plans l st b r
+  lost : {b : ℕ} {text : List ℕ} {r : Result Plan Refusal} → Lines l st b text → marked st.lost b ≡ true → Plans l st b r
       → Lines l st (suc b) (text ++ line_of b r)

@@ -3,33 +3,30 @@
 
 ghost use Rattle.std.specs.Prelude.{◌+◌, ◌*◌, ◌<◌, ◌≤◌, length};
 ghost use Rattle.losses.specs.Lines.{Lines};
-ghost use Rattle.losses.specs.Inner.{Written, Goes};
+ghost use Rattle.losses.specs.Inner.{WrittenBy, Goes};
 
 use groups::Layout;
 use plan::Standing;
+use text::Writer;
 
 // The line of block b, if it is lost.
-fn put_block(out: &mut [u8], at: usize, l: Layout, st: Standing, b: usize) -> usize
-    requires { (b < 48) × (at + 232 ≤ length out.old) }
-    ensures { Written (Goes l st b) 232 at out.old out.new result }
+fn put_block(w: &mut Writer<'_>, l: Layout, st: Standing, b: usize)
+    requires { (b < 48) × (w.old.at + 232 ≤ length w.old.out.now) }
+    ensures { WrittenBy (Goes l st b) 232 w.old w.new }
 {
     if !marks::holds(st.lost, b) {
-        return at;
+        return;
     }
     let r = plan::plan_of(l, st, b);
-    loss::put_line(out, at, b, r)
+    loss::put_line(w, b, r);
 }
 
 // The lines of the lost blocks below n.
-pub fn put_lines(out: &mut [u8], at: usize, l: Layout, st: Standing, n: usize) -> usize
-    requires { (n ≤ 48) × (at + 232 * n ≤ length out.old) }
-    ensures { Written (Lines l st n) (232 * n) at out.old out.new result }
+pub fn put_lines(w: &mut Writer<'_>, l: Layout, st: Standing, n: usize)
+    requires { (n ≤ 48) × (w.old.at + 232 * n ≤ length w.old.out.now) }
+    ensures { WrittenBy (Lines l st n) (232 * n) w.old w.new }
 {
-    let mut e = at;
-    let mut b: usize = 0;
-    while b < n {
-        e = put_block(out, e, l, st, b);
-        b += 1;
+    for b in 0..n {
+        put_block(w, l, st, b);
     }
-    e
 }

@@ -9,8 +9,7 @@ use native.Mathlib.Numerals.{add-one}
 use lib.ListN.{length, get_or, set, length-append}
 use lib.Seq.{sets, get_or-set_same, get_or-set_other, set-set, set_comm}
 use Rattle.groups.specs.declared.Group.{Group}
-use Rattle.groups.specs.declared.Walk.{Walk}
-use Rattle.groups.specs.Groups.{no_group, grown, ended, closed}
+use Rattle.groups.specs.Groups.{State, no_group, grown, ended, closed}
 use Rattle.note.specs.Tree.{Tree, Members, over, branch_length, note_of, notes_in, datas, datas_in, redundants, redundants_in, size, size_in, groups_of, groups_in}
 use Rattle.note.specs.Tree.Tree.{leaf, branch}
 use Rattle.note.specs.Tree.Members.{pair, more}
@@ -32,7 +31,7 @@ set_sets l i j (x ∷ xs) a h =
 
 -- ---- the state after groups, with their data blocks, redundant blocks and bytes
 
-abbrev pub advanced : List Group → ℕ → ℕ → List ℕ → Walk → Walk
+abbrev pub advanced : List Group → ℕ → ℕ → List ℕ → State → State
 advanced gs d r bytes w =
     record {
       lay = record {
@@ -45,7 +44,7 @@ advanced gs d r bytes w =
       fault = 0;
     }
 
-advanced_append : (gs hs : List Group) (d e r q : ℕ) (b c : List ℕ) (w : Walk) →
+advanced_append : (gs hs : List Group) (d e r q : ℕ) (b c : List ℕ) (w : State) →
     advanced hs e q c (advanced gs d r b w) ≡ advanced (gs ++ hs) (d + e) (r + q) (b ++ c) w
 advanced_append gs hs d e r q b c w =
     let g : w.lay.groups + length gs + length hs ≡ w.lay.groups + length (gs ++ hs) = omega (arith, length-append gs hs) in
@@ -56,7 +55,7 @@ advanced_append gs hs d e r q b c w =
     λ i. record { lay = record { groups = g i; list = l i; k = k i; r = m i }; at = a i; fault = 0 }
 
 -- a branch whose members have been read is closed
-advanced_branch : (rows h len : ℕ) (gs : List Group) (d r : ℕ) (head bytes : List ℕ) (w : Walk) → length head ≡ 5 → w.lay.groups < length w.lay.list →
+advanced_branch : (rows h len : ℕ) (gs : List Group) (d r : ℕ) (head bytes : List ℕ) (w : State) → length head ≡ 5 → w.lay.groups < length w.lay.list →
     closed w.lay.groups (advanced gs d r bytes (grown rows h 0 len 5 w)) ≡
     advanced
     (record { h = h; d = 0; len = len; row = rows; first = w.lay.k; redundant = w.lay.r; size = 1 + length gs; count = d } ∷ gs)
@@ -85,22 +84,22 @@ advanced_branch rows h len gs d r head bytes w five inside =
 
 -- ---- the state after a tree
 
-abbrev pub after : Tree → ℕ → Walk → Walk
+abbrev pub after : Tree → ℕ → State → State
 after t row w = advanced (groups_of t row w.lay.k w.lay.r) (datas t) (redundants t) (note_of t) w
 
-abbrev pub after_in : Members → ℕ → Walk → Walk
+abbrev pub after_in : Members → ℕ → State → State
 after_in ms row w = advanced (groups_in ms row w.lay.k w.lay.r) (datas_in ms) (redundants_in ms) (notes_in ms) w
 
-pub after_leaf : (h d row : ℕ) (w : Walk) → grown row h d 4 6 w ≡ after (leaf h d) row w
+pub after_leaf : (h d row : ℕ) (w : State) → grown row h d 4 6 w ≡ after (leaf h d) row w
 unfolding groups_of datas redundants note_of over
 after_leaf h d row w = refl
 
-pub after_pair : (t u : Tree) (row : ℕ) (w : Walk) → after u row (after t row w) ≡ after_in (pair t u) row w
+pub after_pair : (t u : Tree) (row : ℕ) (w : State) → after u row (after t row w) ≡ after_in (pair t u) row w
 unfolding groups_of datas datas_in redundants redundants_in note_of notes_in over
 after_pair t u row w =
     advanced_append (groups_of t row w.lay.k w.lay.r) (groups_of u row (w.lay.k + datas t) (w.lay.r + redundants t)) (datas t) (datas u) (redundants t) (redundants u) (note_of t) (note_of u) w
 
-pub after_more : (t : Tree) (ms : Members) (row : ℕ) (w : Walk) → after_in ms row (after t row w) ≡ after_in (more t ms) row w
+pub after_more : (t : Tree) (ms : Members) (row : ℕ) (w : State) → after_in ms row (after t row w) ≡ after_in (more t ms) row w
 unfolding groups_of datas datas_in redundants redundants_in note_of notes_in over
 after_more t ms row w =
     advanced_append (groups_of t row w.lay.k w.lay.r) (groups_in ms row (w.lay.k + datas t) (w.lay.r + redundants t)) (datas t) (datas_in ms) (redundants t) (redundants_in ms) (note_of t) (notes_in ms) w
@@ -121,7 +120,7 @@ mutual
       length-append (groups_of t row first redundant) (groups_in ms row (first + datas t) (redundant + redundants t))
       ∙ ap₂ ◌+◌ (groups_length t row first redundant) (groups_in_length ms row (first + datas t) (redundant + redundants t))
 
-pub after_branch : (h : ℕ) (ms : Members) (row : ℕ) (w : Walk) → w.lay.groups < length w.lay.list →
+pub after_branch : (h : ℕ) (ms : Members) (row : ℕ) (w : State) → w.lay.groups < length w.lay.list →
     closed w.lay.groups (after_in ms (row + h) (grown row h 0 (branch_length (notes_in ms)) 5 w)) ≡ after (branch h ms) row w
 unfolding groups_of datas datas_in redundants redundants_in note_of notes_in over
 after_branch h ms row w inside =

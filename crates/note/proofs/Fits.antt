@@ -3,8 +3,7 @@ use Prim.Native.Nat.{ℕ, ◌+◌, ◌*◌, ◌≤◌, ◌<◌}
 use native.Mathlib.Omega.{arith}
 use lib.ListN.{length, length-append}
 use Rattle.groups.specs.declared.Layout.{Layout}
-use Rattle.groups.specs.declared.Walk.{Walk}
-use Rattle.groups.specs.Groups.{grown, at_start}
+use Rattle.groups.specs.Groups.{State, grown, at_start}
 use Rattle.note.specs.Tree.{Tree, Members, over, note_of, notes_in, datas, datas_in, redundants, redundants_in, size, size_in, nesting, nesting_in, rows, rows_in, fewest, fewest_in, Within}
 use Rattle.note.specs.Tree.Tree.{leaf, branch}
 use Rattle.note.specs.Tree.Members.{pair, more}
@@ -26,7 +25,7 @@ Fits level row l t = Bounded level row l (fewest t) (size t) (nesting t) (rows t
 abbrev pub FitsIn : ℕ → ℕ → Layout → Members → Type 0
 FitsIn level row l ms = Bounded level row l (fewest_in ms) (size_in ms) (nesting_in ms) (rows_in ms) (datas_in ms) (redundants_in ms)
 
-module _ (level row : ℕ) (w : Walk) where
+module _ (level row : ℕ) (w : State) where
   -- ---- up: from the parts to the whole
 
   pub fits_leaf : (h d : ℕ) → Room level row h d w.lay → 0 < d → Fits level row w.lay (leaf h d)

@@ -6,9 +6,8 @@ use native.Mathlib.Omega.{arith}
 use native.Mathlib.Nat.{add-zero}
 use lib.ListN.{length, drop, get_or, length-append, length-drop, length-set}
 use lib.Seq.{get_or-drop, drop-drop, length-sets}
-use Rattle.note.specs.declared.reader.Head.TheVariants.{Leaf, Branch}
-use Rattle.groups.specs.declared.Walk.{Walk}
-use Rattle.groups.specs.Groups.{grown, closed}
+use Rattle.note.specs.Note.Head.{Leaf, Branch}
+use Rattle.groups.specs.Groups.{State, grown, closed}
 use Rattle.note.specs.Note.{Bytes}
 use Rattle.note.specs.Tree.{Tree, Members, over, branch_length, note_of, notes_in, groups_of}
 use Rattle.note.specs.Tree.Tree.{leaf, branch}
@@ -48,23 +47,23 @@ high_byte lo hi n a b e = let q : n / 256 ≡ hi = omega arith in rw q (omega ar
 
 -- ---- a tree that is read from the state w to the state v
 
-pub record Found (s : List ℕ) (level row : ℕ) (w v : Walk) (t : Tree) : Type 0 where
+pub record Found (s : List ℕ) (level row : ℕ) (w v : State) (t : Tree) : Type 0 where
   pub stands : drop w.at s ≡ note_of t ++ drop v.at s
   pub fits : Fits level row w.lay t
   pub is : v ≡ after t row w
 
 -- the members of the branch `own`, which ends at `end`
-record FoundIn (s : List ℕ) (end level row own : ℕ) (w v : Walk) (ms : Members) : Type 0 where
+record FoundIn (s : List ℕ) (end level row own : ℕ) (w v : State) (ms : Members) : Type 0 where
   pub stands : drop w.at s ≡ notes_in ms ++ drop end s
   pub fits : FitsIn level row w.lay ms
   pub is : v ≡ closed own (after_in ms row w)
 
 -- there are 16 entries before and after
-keeps : (t : Tree) (row : ℕ) (w v : Walk) → v ≡ after t row w → length w.lay.list ≡ 16 → length v.lay.list ≡ 16
+keeps : (t : Tree) (row : ℕ) (w v : State) → v ≡ after t row w → length w.lay.list ≡ 16 → length v.lay.list ≡ 16
 keeps t row w v e n = rw e (length-sets w.lay.list w.lay.groups (groups_of t row w.lay.k w.lay.r) ∙ n)
 
 module _ (s : List ℕ) where
-  leaf_found : (end level row h d : ℕ) (w v : Walk) → end ≤ length s → Says s w.at end (Leaf h d) → Room level row h d w.lay →
+  leaf_found : (end level row h d : ℕ) (w v : State) → end ≤ length s → Says s w.at end (Leaf h d) → Room level row h d w.lay →
       v ≡ grown row h d 4 6 w → Found s level row w v (leaf h d)
   unfolding note_of over
   leaf_found end level row h d w v n p r e =
@@ -74,20 +73,20 @@ module _ (s : List ℕ) where
       let b3 : get_or s (w.at + 3) 0 ≡ 0 = omega (arith, p) in
       let b4 = p.3 in
       let b5 = p.4 in
-      let a : v.at ≡ w.at + 6 = ap (λ (x : Walk). x.at) e in
+      let a : v.at ≡ w.at + 6 = ap (λ (x : State). x.at) e in
       record {
         stands = rw a (drop6 s w.at (omega (arith, p)) ∙ (cc));
         fits = fits_leaf level row w h d r p.5;
         is = e ∙ after_leaf h d row w;
       }
 
-  branch_found : (end level row h len : ℕ) (w v : Walk) (ms : Members) → Bytes s → end ≤ length s → Says s w.at end (Branch h len) →
+  branch_found : (end level row h len : ℕ) (w v : State) (ms : Members) → Bytes s → end ≤ length s → Says s w.at end (Branch h len) →
       Room level row h 0 w.lay → length w.lay.list ≡ 16 →
       FoundIn s (w.at + 2 + len) (level + 1) (row + h) w.lay.groups (grown row h 0 len 5 w) v ms → Found s level row w v (branch h ms)
   unfolding note_of notes_in over
   branch_found end level row h len w v ms b n p r full f =
       let m : len ≡ branch_length (notes_in ms) = omega (arith, p, simp (length-drop, length-append) at (ap length f.stands)) in
-      let a : v.at ≡ w.at + 2 + len = ap (λ (x : Walk). x.at) f.is ∙ omega arith in
+      let a : v.at ≡ w.at + 2 + len = ap (λ (x : State). x.at) f.is ∙ omega arith in
       let b0 : get_or s w.at 0 ≡ len % 256 = omega (arith, p, b.below w.at, b.below (w.at + 1)) in
       let b1 = high_byte (get_or s w.at 0) (get_or s (w.at + 1) 0) len (b.below w.at) (b.below (w.at + 1)) p.1 in
       let b2 : get_or s (w.at + 2) 0 ≡ 2 = omega (arith, p) in
@@ -100,7 +99,7 @@ module _ (s : List ℕ) where
         is = f.is ∙ rw m (after_branch h ms row w (omega (arith, r, full)));
       }
 
-  pair_found : (end level row own : ℕ) (w u x v : Walk) (t₀ t : Tree) → Found s level row w u t₀ → Found s level row u x t → x.at ≡ end → v ≡ closed own x →
+  pair_found : (end level row own : ℕ) (w u x v : State) (t₀ t : Tree) → Found s level row w u t₀ → Found s level row u x t → x.at ≡ end → v ≡ closed own x →
       FoundIn s end level row own w v (pair t₀ t)
   unfolding note_of notes_in over
   pair_found end level row own w u x v t₀ t f g a e =
@@ -110,7 +109,7 @@ module _ (s : List ℕ) where
         is = e ∙ ap (closed own) (g.is ∙ ap (after t row) f.is ∙ after_pair t₀ t row w);
       }
 
-  more_found : (end level row own : ℕ) (w u v : Walk) (t : Tree) (ms : Members) → Found s level row w u t → FoundIn s end level row own u v ms →
+  more_found : (end level row own : ℕ) (w u v : State) (t : Tree) (ms : Members) → Found s level row w u t → FoundIn s end level row own u v ms →
       FoundIn s end level row own w v (more t ms)
   unfolding note_of notes_in over
   more_found end level row own w u v t ms f g =
@@ -122,7 +121,7 @@ module _ (s : List ℕ) where
 
   module _ (b : Bytes s) where
     mutual
-      pub group_found : {end level row : ℕ} {w v : Walk} → GroupRun s end level row w v → end ≤ length s → length w.lay.list ≡ 16 →
+      pub group_found : {end level row : ℕ} {w v : State} → GroupRun s end level row w v → end ≤ length s → length w.lay.list ≡ 16 →
           (t : Tree) × Found s level row w v t
       group_found {end} {level} {row} {w} {v} (leaf_run h d p r e) n full = (leaf h d, leaf_found end level row h d w v n p r e)
       group_found {end} {level} {row} {w} {v} (branch_run h len p r m) n full =
@@ -130,7 +129,7 @@ module _ (s : List ℕ) where
           (branch h ms.0, branch_found end level row h len w v ms.0 b n p r full ms.1)
 
       -- the members of a branch, before the first
-      first_found : {end level row own count : ℕ} {w v : Walk} → MembersRun s end level row own count w v → count ≡ 0 → end ≤ length s →
+      first_found : {end level row own count : ℕ} {w v : State} → MembersRun s end level row own count w v → count ≡ 0 → end ≤ length s →
           length w.lay.list ≡ 16 → (ms : Members) × FoundIn s end level row own w v ms
       first_found (end_run a c e) z n full = absurd (omega arith)
       first_found {row = row} {w = w} (more_run u g m) z n full =
@@ -138,16 +137,16 @@ module _ (s : List ℕ) where
           second_found m (omega arith) n (keeps first.0 row w u first.1.is full) w first.0 first.1
 
       -- after the first
-      second_found : {end level row own count : ℕ} {u v : Walk} → MembersRun s end level row own count u v → count ≡ 1 → end ≤ length s →
-          length u.lay.list ≡ 16 → (w : Walk) (t₀ : Tree) → Found s level row w u t₀ → (ms : Members) × FoundIn s end level row own w v ms
+      second_found : {end level row own count : ℕ} {u v : State} → MembersRun s end level row own count u v → count ≡ 1 → end ≤ length s →
+          length u.lay.list ≡ 16 → (w : State) (t₀ : Tree) → Found s level row w u t₀ → (ms : Members) × FoundIn s end level row own w v ms
       second_found (end_run a c e) z n full w t₀ f = absurd (omega arith)
       second_found {row = row} {u = u} (more_run x g m) z n full w t₀ f =
           let second = group_found g n full in
           tail_found m n (keeps second.0 row u x second.1.is full) w u t₀ second.0 f second.1
 
       -- what is left of a branch, after two members or more, of which t₀ and t are the last two
-      tail_found : {end level row own count : ℕ} {x v : Walk} → MembersRun s end level row own count x v → end ≤ length s → length x.lay.list ≡ 16 →
-          (w u : Walk) (t₀ t : Tree) → Found s level row w u t₀ → Found s level row u x t → (ms : Members) × FoundIn s end level row own w v ms
+      tail_found : {end level row own count : ℕ} {x v : State} → MembersRun s end level row own count x v → end ≤ length s → length x.lay.list ≡ 16 →
+          (w u : State) (t₀ t : Tree) → Found s level row w u t₀ → Found s level row u x t → (ms : Members) × FoundIn s end level row own w v ms
       tail_found {end} {level} {row} {own} {count} {x} {v} (end_run a c e) n full w u t₀ t f g = (pair t₀ t, pair_found end level row own w u x v t₀ t f g a e)
       tail_found {end} {level} {row} {own} {count} {x} {v} (more_run y i m) n full w u t₀ t f g =
           let next = group_found i n full in

@@ -5,9 +5,8 @@ use mathlib.Core.List.{List}
 use native.Mathlib.Omega.{arith}
 use lib.ListN.{get_or}
 use Rattle.groups.proofs.Picks.{by_lt, by_eq}
-use Rattle.note.specs.declared.reader.Head.{Head}
-use Rattle.note.specs.declared.reader.Head.TheVariants.{Bad, Leaf, Branch}
-use Rattle.note.specs.Note.{length_at, kind_at, leaf_at, branch_at, record_at, head_at}
+use Rattle.note.specs.Note.Head.{Bad, Leaf, Branch}
+use Rattle.note.specs.Note.{Head, length_at, kind_at, leaf_at, branch_at, record_at, head_at}
 
 -- what a head says of the bytes from `at` on, in what ends at `end`
 abbrev pub Says : List ℕ → ℕ → ℕ → Head → Type 0

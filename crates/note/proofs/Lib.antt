@@ -1,4 +1,5 @@
 pub mod Heads
+pub mod Fronts
 pub mod Equations
 pub mod Steps
 pub mod Runs

@@ -6,9 +6,8 @@ use native.Mathlib.Omega.{arith}
 use native.Mathlib.Nat.{add-zero}
 use lib.ListN.{length, drop, get_or, length-append, length-set}
 use lib.Seq.{get_or-drop, drop-drop, drop-append_seam, length-sets}
-use Rattle.note.specs.declared.reader.Head.TheVariants.{Leaf, Branch}
-use Rattle.groups.specs.declared.Walk.{Walk}
-use Rattle.groups.specs.Groups.{entered, grown, closed}
+use Rattle.note.specs.Note.Head.{Leaf, Branch}
+use Rattle.groups.specs.Groups.{State, entered, grown, closed}
 use Rattle.note.specs.Note.{head_at, record_at, leaf_at, branch_at, next, group_read, members_read}
 use Rattle.note.specs.Tree.{Tree, Members, over, leaf_record, branch_length, branch_record, note_of, notes_in, size, size_in, groups_of}
 use Rattle.note.specs.Tree.Tree.{leaf, branch}
@@ -61,19 +60,19 @@ branch_head s at end h members rest e n p =
 
 -- ---- one member
 
-module _ (s : List ℕ) (end level row own start count : ℕ) (w : Walk) (t : Tree) where
+module _ (s : List ℕ) (end level row own start count : ℕ) (w : State) (t : Tree) where
   member_read : (w.at ≡ end → ⊥) → group_read s end level row w ≡ after t row w →
       members_read s end level row own start count w ≡ members_read s end level row own start (count + 1) (after t row w)
   member_read n e =
       let go = members_read s end level row own start (count + 1) in
-      members_more s end level row w own start count n ∙ ap (λ (v : Walk). next v go) e ∙ next_go (after t row w) go refl
+      members_more s end level row w own start count n ∙ ap (λ (v : State). next v go) e ∙ next_go (after t row w) go refl
 
 -- ---- trees
 
 mutual
   unfolding note_of notes_in size size_in over
 
-  pub tree_reads : (t : Tree) (s : List ℕ) (end level row : ℕ) (w : Walk) (rest : List ℕ) → drop w.at s ≡ note_of t ++ rest →
+  pub tree_reads : (t : Tree) (s : List ℕ) (end level row : ℕ) (w : State) (rest : List ℕ) → drop w.at s ≡ note_of t ++ rest →
       w.at + length (note_of t) ≤ end → length w.lay.list ≡ 16 → Fits level row w.lay t → group_read s end level row w ≡ after t row w
   tree_reads (leaf h d) s end level row w rest e n full f =
       let r = leaf_fits level row w h d f in
@@ -85,13 +84,13 @@ mutual
       let go = members_in s end level row w h len in
       let inside : grown row h 0 len 5 w ≡ entered level row h 0 len 5 w = entered_is level row h 0 len 5 w r.0 in
       group_branch s end level row w (branch_head s w.at end h (notes_in ms) rest e (omega arith) (omega (arith, notes_short ms, r.1.groups)))
-      ∙ ap (λ (v : Walk). next v go) (sym inside) ∙ next_go (grown row h 0 len 5 w) go refl
+      ∙ ap (λ (v : State). next v go) (sym inside) ∙ next_go (grown row h 0 len 5 w) go refl
       ∙ members_read_lem ms s (w.at + 2 + len) (level + 1) (row + h) w.lay.groups w.at 0 (grown row h 0 len 5 w) rest
       (behind s w.at (len % 256 ∷ len / 256 % 256 ∷ 2 ∷ 0 ∷ h ∷ []) (notes_in ms ++ rest) e)
       (omega arith) (length-set w.lay.list w.lay.groups _ ∙ full) r.1
       ∙ after_branch h ms row w (omega (arith, full, r.0.groups))
 
-  members_read_lem : (ms : Members) (s : List ℕ) (end level row own start count : ℕ) (w : Walk) (rest : List ℕ) → drop w.at s ≡ notes_in ms ++ rest →
+  members_read_lem : (ms : Members) (s : List ℕ) (end level row own start count : ℕ) (w : State) (rest : List ℕ) → drop w.at s ≡ notes_in ms ++ rest →
       w.at + length (notes_in ms) ≡ end → length w.lay.list ≡ 16 → FitsIn level row w.lay ms →
       members_read s end level row own start count w ≡ closed own (after_in ms row w)
   members_read_lem (pair t u) s end level row own start count w rest e n full f =

@@ -5,30 +5,28 @@ use mathlib.Core.Path.{◌≡◌, ap}
 use mathlib.Core.List.{List}
 use native.Mathlib.Omega.{arith}
 use native.Mathlib.Decide.{dec_lt, ℕ_discrete}
-use Rattle.note.specs.declared.reader.Head.{Head}
-use Rattle.note.specs.declared.reader.Head.TheVariants.{Bad, Leaf, Branch}
-use Rattle.groups.specs.declared.Walk.{Walk}
-use Rattle.groups.specs.Groups.{entered, grown, closed}
-use Rattle.note.specs.Note.{head_at, group_read, members_read}
+use Rattle.note.specs.Note.Head.{Bad, Leaf, Branch}
+use Rattle.groups.specs.Groups.{State, entered, grown, closed}
+use Rattle.note.specs.Note.{Head, head_at, group_read, members_read}
 use Rattle.groups.proofs.Totals.{Room, room}
 use Rattle.note.proofs.Heads.{Says, says}
 use Rattle.note.proofs.Equations.{by_kind, next_holds, members_in, group_by_kind, group_goes, members_few, members_end, members_more}
 
 mutual
   -- a group is read from the state w to the state v
-  pub data GroupRun (s : List ℕ) : ℕ → ℕ → ℕ → Walk → Walk → Type 0 where
-    leaf_run : {end level rows : ℕ} {w v : Walk} (h d : ℕ) → Says s w.at end (Leaf h d) → Room level rows h d w.lay → v ≡ grown rows h d 4 6 w →
+  pub data GroupRun (s : List ℕ) : ℕ → ℕ → ℕ → State → State → Type 0 where
+    leaf_run : {end level rows : ℕ} {w v : State} (h d : ℕ) → Says s w.at end (Leaf h d) → Room level rows h d w.lay → v ≡ grown rows h d 4 6 w →
         GroupRun s end level rows w v
-    branch_run : {end level rows : ℕ} {w v : Walk} (h len : ℕ) → Says s w.at end (Branch h len) → Room level rows h 0 w.lay →
+    branch_run : {end level rows : ℕ} {w v : State} (h len : ℕ) → Says s w.at end (Branch h len) → Room level rows h 0 w.lay →
         MembersRun s (w.at + 2 + len) (level + 1) (rows + h) w.lay.groups 0 (grown rows h 0 len 5 w) v → GroupRun s end level rows w v
 
   -- what is left of the branch `own` is read, after `count` members
-  pub data MembersRun (s : List ℕ) : ℕ → ℕ → ℕ → ℕ → ℕ → Walk → Walk → Type 0 where
-    end_run : {end level rows own count : ℕ} {w v : Walk} → w.at ≡ end → 2 ≤ count → v ≡ closed own w → MembersRun s end level rows own count w v
-    more_run : {end level rows own count : ℕ} {w v : Walk} (u : Walk) → GroupRun s end level rows w u →
+  pub data MembersRun (s : List ℕ) : ℕ → ℕ → ℕ → ℕ → ℕ → State → State → Type 0 where
+    end_run : {end level rows own count : ℕ} {w v : State} → w.at ≡ end → 2 ≤ count → v ≡ closed own w → MembersRun s end level rows own count w v
+    more_run : {end level rows own count : ℕ} {w v : State} (u : State) → GroupRun s end level rows w u →
         MembersRun s end level rows own (count + 1) u v → MembersRun s end level rows own count w v
 
-kind_run : (s : List ℕ) (end level rows : ℕ) (w : Walk) (members : ℕ → ℕ → Walk → Walk) →
+kind_run : (s : List ℕ) (end level rows : ℕ) (w : State) (members : ℕ → ℕ → State → State) →
     ((h len : ℕ) → Says s w.at end (Branch h len) → (members h len (grown rows h 0 len 5 w)).fault ≡ 0 →
     MembersRun s (w.at + 2 + len) (level + 1) (rows + h) w.lay.groups 0 (grown rows h 0 len 5 w) (members h len (grown rows h 0 len 5 w))) →
     (hd : Head) → Says s w.at end hd → (by_kind level rows w members hd).fault ≡ 0 → GroupRun s end level rows w (by_kind level rows w members hd)
@@ -45,7 +43,7 @@ three_not_zero p q = omega arith
 
 mutual
   -- by induction over a bound n of the bytes left
-  group_run_below : (n : ℕ) (s : List ℕ) (end level rows : ℕ) (w : Walk) → 2 * (end - w.at) < n → (group_read s end level rows w).fault ≡ 0 →
+  group_run_below : (n : ℕ) (s : List ℕ) (end level rows : ℕ) (w : State) → 2 * (end - w.at) < n → (group_read s end level rows w).fault ≡ 0 →
       GroupRun s end level rows w (group_read s end level rows w)
   group_run_below zero s end level rows w b z = absurd (omega arith)
   group_run_below (suc n) s end level rows w b z =
@@ -54,13 +52,13 @@ mutual
       (λ h len p y. members_run_below n s (w.at + 2 + len) (level + 1) (rows + h) w.lay.groups w.at 0 (grown rows h 0 len 5 w) (omega (arith, p)) y)
       (head_at s w.at end) (says s w.at end) (rw (group_by_kind s end level rows w) at z))
 
-  members_run_below : (n : ℕ) (s : List ℕ) (end level rows own start count : ℕ) (w : Walk) → 2 * (end - w.at) + 1 < n →
+  members_run_below : (n : ℕ) (s : List ℕ) (end level rows own start count : ℕ) (w : State) → 2 * (end - w.at) + 1 < n →
       (members_read s end level rows own start count w).fault ≡ 0 → MembersRun s end level rows own count w (members_read s end level rows own start count w)
   members_run_below zero s end level rows own start count w b z = absurd (omega arith)
   members_run_below (suc n) s end level rows own start count w b z =
       elim (ℕ_discrete w.at end) [
         | yes e ↦ elim (dec_lt count 2) [
-          | yes l ↦ absurd (three_not_zero (ap (λ (v : Walk). v.fault) (members_few s end level rows w own start count e l)) z)
+          | yes l ↦ absurd (three_not_zero (ap (λ (v : State). v.fault) (members_few s end level rows w own start count e l)) z)
           | no l ↦ end_run {count = count} e (omega arith) (members_end s end level rows w own start count e (omega arith))
         ]
         | no e ↦
@@ -73,6 +71,6 @@ mutual
             (rw (members_more s end level rows w own start count e) at z))
       ]
 
-pub group_run : (s : List ℕ) (end level rows : ℕ) (w : Walk) → (group_read s end level rows w).fault ≡ 0 →
+pub group_run : (s : List ℕ) (end level rows : ℕ) (w : State) → (group_read s end level rows w).fault ≡ 0 →
     GroupRun s end level rows w (group_read s end level rows w)
 group_run s end level rows w z = group_run_below (2 * (end - w.at) + 1) s end level rows w (omega arith) z

@@ -1,15 +1,15 @@
 -- Proved: a note is read to a layout exactly if it is the note of a tree within the bounds, and the layout is then that tree's.
-use Prim.Native.Nat.{ℕ, zero, suc, ◌+◌, ◌-◌, ◌≤◌}
+use Prim.Native.Nat.{ℕ, ◌+◌, ◌-◌, ◌≤◌}
 use mathlib.Core.Path.{◌≡◌, refl, sym, ◌∙◌, ap}
 use mathlib.Core.List.{List, [], ◌++◌, append-nil}
 use native.Mathlib.Omega.{arith}
 use native.Mathlib.Nat.{zero-add}
 use lib.ListN.{length, drop, replicate, drop_of_length-le}
 use lib.Seq.{sets, sets-eq}
+use Rattle.std.proofs.lemmas.List.{drop-replicate}
 use Rattle.groups.specs.declared.Group.{Group}
 use Rattle.groups.specs.declared.Layout.{Layout}
-use Rattle.groups.specs.declared.Walk.{Walk}
-use Rattle.groups.specs.Groups.{no_group, at_start}
+use Rattle.groups.specs.Groups.{State, no_group, at_start}
 use Rattle.note.specs.Note.{Bytes, group_read, Outcome, finish, read_note}
 use Rattle.note.specs.Note.Outcome.{layout, refusal}
 use Rattle.note.specs.Tree.{Tree, note_of, datas, redundants, size, groups_of, layout_of, Within}
@@ -21,7 +21,7 @@ use Rattle.note.proofs.Found.{group_found}
 use Rattle.note.proofs.Readings.{tree_reads}
 
 -- a reading that ends in a layout: no fault, the whole note, and the layout
-finish_layout : (n : ℕ) (w : Walk) (l : Layout) → finish n w ≡ layout l → (w.fault ≡ 0) × (n ≤ w.at) × (w.lay ≡ l)
+finish_layout : (n : ℕ) (w : State) (l : Layout) → finish n w ≡ layout l → (w.fault ≡ 0) × (n ≤ w.at) × (w.lay ≡ l)
 finish_layout n w l =
     by_eq P w.fault 0 (λ z. by_lt P w.at n (λ a e. absurd (never e)) (λ a e. (z, a, (cc)))) (λ z e. absurd (never e))
   where
@@ -31,11 +31,6 @@ finish_layout n w l =
     never : {a b : ℕ} → refusal a b ≡ layout l → ⊥
     never e = let z : ◌≡◌ {A = ℕ} 0 1 = cc in omega arith
 
-drop_replicate : (n m : ℕ) (g : Group) → drop n (replicate m g) ≡ replicate (m - n) g
-drop_replicate zero m g = let e : m - 0 ≡ m = omega arith in rw e
-drop_replicate (suc n) zero g = let e : 0 - suc n ≡ 0 = omega arith in rw e
-drop_replicate (suc n) (suc m) g = let e : suc m - suc n ≡ m - n = omega arith in rw e (drop_replicate n m g)
-
 -- the layout after a tree with which the note starts
 layout_after : (t : Tree) → size t ≤ 16 → (after t 0 at_start).lay ≡ layout_of t
 unfolding layout_of
@@ -44,7 +39,7 @@ layout_after t b =
     let gs = groups_of t 0 0 0 in
     let g : 0 + length gs ≡ size t = omega arith in
     let l : sets (replicate 16 no_group) 0 gs ≡ gs ++ replicate (16 - size t) no_group =
-    sets-eq gs (replicate 16 no_group) 0 (omega arith) ∙ ap (λ (r : List Group). gs ++ r) (rw g (drop_replicate (size t) 16 no_group)) in
+    sets-eq gs (replicate 16 no_group) 0 (omega arith) ∙ ap (λ (r : List Group). gs ++ r) (rw g (drop-replicate (size t) 16 no_group)) in
     let k : 0 + datas t ≡ datas t = zero-add (datas t) in
     let r : 0 + redundants t ≡ redundants t = zero-add (redundants t) in
     λ i. record { groups = g i; list = l i; k = k i; r = r i }
@@ -62,7 +57,7 @@ read_tree s l b e =
       t,
       within,
       found.1.stands ∙ rw rest (append-nil (note_of t)),
-      sym z.2 ∙ ap (λ (w : Walk). w.lay) found.1.is ∙ layout_after t within.groups,
+      sym z.2 ∙ ap (λ (w : State). w.lay) found.1.is ∙ layout_after t within.groups,
     )
 
 -- the note of a tree within the bounds is read, to the tree's layout

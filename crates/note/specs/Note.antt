@@ -4,16 +4,27 @@
 -- 2 (3), end (1), kind (2), body (3), then bounds on the running totals (5), then members, whose count is judged when the branch ends.
 -- `group_of` and `members_of` call each other, so each counts down a number that is large enough. `group_read` and `members_read` choose it; the
 -- equations that a reader expects of these two stand in proofs/Equations, and nothing after them looks at the count.
-use Rattle.std.specs.Prelude.{ℕ, zero, suc, ◌+◌, ◌-◌, ◌*◌, ◌<◌, List, Bool, true, false, length, get_or, eqb}
+use Rattle.std.specs.Prelude.{ℕ, zero, suc, ◌+◌, ◌-◌, ◌*◌, ◌<◌, List, Bool, true, false, length, get_or, eqb, Result, Ok, Err}
 use Rattle.groups.specs.declared.Layout.{Layout}
-use Rattle.groups.specs.declared.Walk.{Walk}
-use Rattle.groups.specs.Groups.{if_lt, if_eq, blank, at_start, refused_at, entered, closed}
-use Rattle.note.specs.declared.reader.Head.{Head}
-use Rattle.note.specs.declared.reader.Head.TheVariants.{Bad, Leaf, Branch}
-use Rattle.note.specs.declared.Answer.TheVariants.{Accepted, Refused}
-use Rattle.note.specs.declared.Reading.{Reading}
+use Rattle.groups.specs.declared.Fault.{Fault}
+use Rattle.groups.specs.Groups.{State, number, if_lt, if_eq, at_start, refused_at, entered, closed}
+use Rattle.note.specs.declared.reader.Record.{Record}
+use Rattle.note.specs.declared.reader.Record.TheVariants as Found
+use Rattle.note.specs.declared.Refused.{Refused}
 
 -- ---- one record
+
+-- what stands where a record must start: a fault with its number, a leaf, or a branch with the length that it gives
+pub data Head : Type 0 where
+  Bad : ℕ → Head
+  Leaf : ℕ → ℕ → Head
+  Branch : ℕ → ℕ → Head
+
+-- what a reading of a record found
+abbrev pub head_of : Result Record Fault → Head
+head_of (Ok (Found.Leaf h d)) = Leaf h d
+head_of (Ok (Found.Branch h len)) = Branch h len
+head_of (Err fault) = Bad (number fault)
 
 -- "numbers are little-endian": the number in the bytes at i and j
 abbrev pub word : List ℕ → ℕ → ℕ → ℕ
@@ -61,25 +72,25 @@ head_at s at end =
 -- ---- the reader
 
 -- what is done for each kind of head
-abbrev pub by_head : Head → (ℕ → Walk) → (ℕ → ℕ → Walk) → (ℕ → ℕ → Walk) → Walk
+abbrev pub by_head : Head → (ℕ → State) → (ℕ → ℕ → State) → (ℕ → ℕ → State) → State
 by_head (Bad number) bad leaf branch = bad number
 by_head (Leaf h d) bad leaf branch = leaf h d
 by_head (Branch h len) bad leaf branch = branch h len
 
 -- go on if the test holds
-abbrev pub go_on : Bool → Walk → (Walk → Walk) → Walk
+abbrev pub go_on : Bool → State → (State → State) → State
 go_on true v go = go v
 go_on false v go = v
 
 -- go on, unless there is a fault
-unfoldable pub next : Walk → (Walk → Walk) → Walk
+unfoldable pub next : State → (State → State) → State
 next v go = go_on (eqb v.fault 0) v go
 
 -- "A branch is read by reading its members, and each member is again read as a group, each reading calling the other in turn." The first
 -- number bounds how often: twice the bytes left is enough
 unfoldable mutual
   -- the record at the place is read as a group of nesting `level`
-  pub group_of : ℕ → List ℕ → ℕ → ℕ → ℕ → Walk → Walk
+  pub group_of : ℕ → List ℕ → ℕ → ℕ → ℕ → State → State
   group_of zero s end level rows w = refused_at 1 w.at w
   group_of (suc f) s end level rows w =
       by_head (head_at s w.at end)
@@ -89,7 +100,7 @@ unfoldable mutual
       (λ v. members_of f s (w.at + 2 + len) (level + 1) (rows + h) w.lay.groups w.at 0 v))
 
   -- what is left of the branch `own`, which starts at `start` and has had `count` members. Fewer than two are 3, at the offset of the branch
-  pub members_of : ℕ → List ℕ → ℕ → ℕ → ℕ → ℕ → ℕ → ℕ → Walk → Walk
+  pub members_of : ℕ → List ℕ → ℕ → ℕ → ℕ → ℕ → ℕ → ℕ → State → State
   members_of zero s end level rows own start count w = refused_at 1 w.at w
   members_of (suc f) s end level rows own start count w =
       if_eq w.at end
@@ -98,11 +109,11 @@ unfoldable mutual
       (λ v. members_of f s end level rows own start (count + 1) v))
 
 -- the reading of a group
-unfoldable pub group_read : List ℕ → ℕ → ℕ → ℕ → Walk → Walk
+unfoldable pub group_read : List ℕ → ℕ → ℕ → ℕ → State → State
 group_read s end level rows w = group_of (2 * (end - w.at) + 1) s end level rows w
 
 -- the reading of what is left of a branch
-unfoldable pub members_read : List ℕ → ℕ → ℕ → ℕ → ℕ → ℕ → ℕ → Walk → Walk
+unfoldable pub members_read : List ℕ → ℕ → ℕ → ℕ → ℕ → ℕ → ℕ → State → State
 members_read s end level rows own start count w = members_of (2 * (end - w.at) + 2) s end level rows own start count w
 
 -- ---- the note
@@ -117,7 +128,7 @@ pub data Outcome : Type 0 where
   refusal : ℕ → ℕ → Outcome
 
 -- the end of the reading: a fault; bytes after the top record (4), at the first of them; or the layout
-abbrev pub finish : ℕ → Walk → Outcome
+abbrev pub finish : ℕ → State → Outcome
 finish size w =
     if_eq w.fault 0
     (if_lt w.at size (refusal 4 w.at) (layout w.lay))
@@ -127,7 +138,7 @@ finish size w =
 unfoldable pub read_note : List ℕ → Outcome
 read_note s = finish (length s) (group_read s (length s) 1 0 at_start)
 
--- the answer for each outcome: document 01's number and offset, and the blank layout where the note is refused
-abbrev pub reading : Outcome → Reading
-reading (layout l) = record { answer = Accepted; layout = l }
-reading (refusal number offset) = record { answer = Refused number offset; layout = blank }
+-- what an answer of a reading says: the layout, or document 01's number of the fault, with its offset
+abbrev pub outcome : Result Layout Refused → Outcome
+outcome (Ok l) = layout l
+outcome (Err e) = refusal (number e.fault) e.offset

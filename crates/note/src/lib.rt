@@ -4,55 +4,51 @@
 pub mod reader;
 
 ghost use Rattle.std.specs.Prelude.{◌≡◌};
-ghost use Rattle.note.specs.Note.{read_note, reading};
-ghost use Rattle.note.specs.Note.Outcome.{refusal};
+ghost use Rattle.groups.specs.Groups.{walked};
+ghost use Rattle.note.specs.Note.{finish, read_note, outcome};
 
-use groups::Layout;
+use groups::{Around, Fault, Layout, Stopped, Walk};
 
-// What reading a note gives: accepted, or a refusal with its number and the offset of the record at fault.
-#[derive(Clone, Copy)]
-pub enum Answer {
-    Accepted,
-    Refused { number: u8, offset: usize },
+// Why a note is refused: the fault, and the offset of the record at fault.
+#[derive(Clone, Copy, PartialEq, Eq)]
+pub struct Refused {
+    pub fault: Fault,
+    pub offset: usize,
 }
 
-// The answer, with the layout: of a refused note the blank one.
-#[derive(Clone, Copy)]
-pub struct Reading {
-    pub answer: Answer,
-    pub layout: Layout,
-}
+impl From<Stopped> for Refused {
+    ghost from_gives = { λ e r. r ≡ record { fault = e.fault; offset = e.walk.at } };
 
-// A refusal: the layout is then the blank one.
-pub fn refused(number: u8, offset: usize) -> Reading
-    ensures { result ≡ reading (refusal number offset) }
-{
-    let none = groups::empty();
-    Reading {
-        answer: Answer::Refused {
-            number: number,
-            offset: offset,
-        },
-        layout: none,
+    fn from(e: Stopped) -> Refused {
+        Refused {
+            fault: e.fault,
+            offset: e.walk.at,
+        }
     }
+}
+
+// The end of the reading of a note of `size` bytes: a fault, bytes after the top record, at the first of them, or the layout.
+pub fn finish(size: usize, read: Result<Walk, Stopped>) -> Result<Layout, Refused>
+    ensures { outcome result ≡ finish size (walked read) }
+{
+    let w = read?;
+    if w.at < size {
+        return Err(Refused {
+            fault: Fault::Extra,
+            offset: w.at,
+        });
+    }
+    Ok(w.lay)
 }
 
 // Reads a note. The top record's nesting is 1, and no rows stand round it.
-pub fn read_note(note: &[u8]) -> Reading
-    ensures { result ≡ reading (read_note note.now) }
+pub fn read_note(note: &[u8]) -> Result<Layout, Refused>
+    ensures { outcome result ≡ read_note note.now }
 {
-    let w = reader::read_group(note, groups::start(), note.len(), 1, 0);
-    let at = w.at;
-    let fault = w.fault;
-    if fault != 0 {
-        return refused(fault, at);
-    }
-    if at < note.len() {
-        return refused(4, at);
-    }
-    let lay = w.lay;
-    Reading {
-        answer: Answer::Accepted,
-        layout: lay,
-    }
+    let around = Around {
+        end: note.len(),
+        level: 1,
+        rows: 0,
+    };
+    finish(note.len(), reader::read_group(note, Walk::start(), around))
 }

@@ -1,134 +1,86 @@
 // The reader of a note: it holds its place, and member reading and group reading call each other.
-ghost use Rattle.std.specs.Prelude.{◌≡◌, ◌+◌, ◌*◌, ◌≤◌, length};
-ghost use Rattle.note.specs.Note.{head_at, record_at, leaf_at, group_read, members_read};
+ghost use Rattle.std.specs.Prelude.{◌≡◌, length};
+ghost use Rattle.groups.specs.Groups.{walking, walked};
+ghost use Rattle.note.specs.Note.{head_of, head_at, group_read, members_read};
 ghost use Rattle.note.specs.Inner.{Ready, InBranch};
 
-use groups::Walk;
+use groups::{Around, Fault, Stopped, Walk};
 
-// What stands where a record must start: a fault with its number, a leaf, or a branch with the length that it gives.
+// A record: a leaf, or a branch with the length that it gives.
 #[derive(Clone, Copy)]
-enum Head {
-    Bad(u8),
+enum Record {
     Leaf { h: u8, d: u8 },
     Branch { h: u8, len: usize },
 }
 
-// The number in two bytes, the lower first.
-fn word(lo: u8, hi: u8) -> usize
-    ensures { result ≡ lo + 256 * hi }
+// The record at the front of what is left of a branch or note, by document 01's checks in their order.
+fn read_head(left: &[u8]) -> Result<Record, Fault>
+    ensures { head_of result ≡ head_at left.now 0 (length left.now) }
 {
-    (lo as usize) + 256 * (hi as usize)
-}
-
-// The record that starts at `at` in what ends at `end`, by document 01's checks in their order. `room` is what the length may come to.
-fn read_head(note: &[u8], at: usize, end: usize) -> Head
-    requires { (at ≤ end) × (end ≤ length note.now) }
-    ensures { result ≡ head_at note.now at end }
-{
-    let left = end - at;
-    if left < 4 {
-        return Head::Bad(1); // fewer than 4 bytes remain
-    }
-    let len = word(note[at], note[at + 1]);
-    let kind = word(note[at + 2], note[at + 3]);
-    let room = left - 2;
-    read_record(note, at, room, len, kind)
-}
-
-// The checks that follow, of a record whose length and kind are read.
-fn read_record(note: &[u8], at: usize, room: usize, len: usize, kind: usize) -> Head
-    requires { at + 2 + room ≤ length note.now }
-    ensures { result ≡ record_at note.now at room len kind }
-{
+    let [len_low, len_high, kind_low, kind_high, ..] = left else {
+        return Err(Fault::End); // fewer than 4 bytes remain
+    };
+    let len = usize::from(u16::from_le_bytes([*len_low, *len_high]));
+    let kind = u16::from_le_bytes([*kind_low, *kind_high]);
+    let room = left.len() - 2; // what the length may come to
     if len < 2 {
-        return Head::Bad(3); // length below 2
+        return Err(Fault::Body); // length below 2
     }
     if room < len {
-        return Head::Bad(1); // it runs past the end
+        return Err(Fault::End); // it runs past the end
     }
-    if kind < 1 {
-        return Head::Bad(2); // kind 0
-    }
-    if 2 < kind {
-        return Head::Bad(2); // kind neither 1 nor 2
-    }
-    if kind == 1 {
-        return read_leaf(note, at, len);
-    }
-    if len < 3 {
-        return Head::Bad(3); // branch length below 3
-    }
-    Head::Branch {
-        h: note[at + 4],
-        len: len,
+    let body = &left[4..2 + len];
+    match (kind, body) {
+        (1, [h, d]) if *d != 0 => Ok(Record::Leaf { h: *h, d: *d }),
+        (1, _) => Err(Fault::Body), // leaf length not 4, or no data block
+        (2, [h, ..]) => Ok(Record::Branch { h: *h, len }),
+        (2, []) => Err(Fault::Body), // branch length below 3
+        _ => Err(Fault::Kind),
     }
 }
 
-// A leaf's body: one byte h and one byte d, which is not 0.
-fn read_leaf(note: &[u8], at: usize, len: usize) -> Head
-    requires { at + 2 + len ≤ length note.now }
-    ensures { result ≡ leaf_at note.now at len }
-{
-    if len != 4 {
-        return Head::Bad(3); // leaf length not 4
-    }
-    let h = note[at + 4];
-    let d = note[at + 5];
-    if d == 0 {
-        return Head::Bad(3); // no data block
-    }
-    Head::Leaf { h: h, d: d }
-}
-
-// Reads the record at the place as a group, in what ends at `end`: `level` is its nesting, `rows` the rows of the groups round it.
+// Reads the record at the place as a group, in what it stands in.
 #[cycle(read_group_read_members)]
-pub fn read_group(note: &[u8], w: Walk, end: usize, level: usize, rows: usize) -> Walk
-    requires { Ready (length note.now) end level rows w }
-    ensures { result ≡ group_read note.now end level rows w }
+pub fn read_group(note: &[u8], w: Walk, around: Around) -> Result<Walk, Stopped>
+    requires { Ready (length note.now) around.end around.level around.rows w }
+    ensures { walked result ≡ group_read note.now around.end around.level around.rows (walking w) }
 {
-    let at = w.at;
-    let own = w.lay.groups;
-    match read_head(note, at, end) {
-        Head::Bad(number) => groups::refuse(w, number, at),
-        Head::Leaf { h, d } => groups::enter(w, level, rows, h, d, 4, 6),
-        Head::Branch { h, len } => {
-            let v = groups::enter(w, level, rows, h, 0, len, 5);
-            if v.fault != 0 {
-                return v;
-            }
-            let inner = at + 2 + len;
-            let inside = rows + groups::wide(h);
-            read_members(note, v, inner, level + 1, inside, own, at, 0)
+    match read_head(&note[w.at..around.end]) {
+        Err(fault) => Err(w.stop(fault, w.at)),
+        Ok(Record::Leaf { h, d }) => w.enter(around, h, d, 4, 6),
+        Ok(Record::Branch { h, len }) => {
+            let v = w.enter(around, h, 0, len, 5)?;
+            let end = w.at + 2 + len;
+            let inside = Around {
+                end,
+                level: around.level + 1,
+                rows: around.rows + usize::from(h),
+            };
+            read_members(note, v, inside, w.lay.groups, w.at, 0)
         }
     }
 }
 
-// Reads what is left of a branch, up to `end`, as members: the branch is group `own`, starts at `start`, and has had `count` members.
+// Reads what is left of a branch as its members: the branch is group `own`, starts at `start`, and has had `count` members.
 #[cycle(read_group_read_members)]
 fn read_members(
     note: &[u8],
     w: Walk,
-    end: usize,
-    level: usize,
-    rows: usize,
+    around: Around,
     own: usize,
     start: usize,
     count: usize,
-) -> Walk
-    requires ready { Ready (length note.now) end level rows w }
+) -> Result<Walk, Stopped>
+    requires ready { Ready (length note.now) around.end around.level around.rows w }
     requires in_branch { InBranch own count w }
-    ensures { result ≡ members_read note.now end level rows own start count w }
+    ensures { walked result ≡ members_read note.now around.end around.level around.rows own start count (walking w) }
 {
-    let at = w.at;
-    if at == end {
+    if w.at == around.end {
         if count < 2 {
-            return groups::refuse(w, 3, start);
+            return Err(w.stop(Fault::Body, start));
         }
-        return groups::close(w, own);
+        return Ok(w.close(own));
     }
-    let v = read_group(note, w, end, level, rows);
-    if v.fault != 0 {
-        return v;
-    }
-    read_members(note, v, end, level, rows, own, start, count + 1)
+    let v = read_group(note, w, around)?;
+    read_members(note, v, around, own, start, count + 1)
 }

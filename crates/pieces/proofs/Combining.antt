@@ -1,5 +1,5 @@
 -- Proved: what the steps of a combination of blocks leave.
-use mathlib.Core.List.{List}
+use mathlib.Core.List.{List, ◌++◌}
 use mathlib.Core.Path.{◌≡◌, refl, sym, ap, ap₂, ◌∙◌}
 use Prim.Native.Nat.{ℕ, ◌+◌, ◌*◌, ◌-◌, ◌<◌, ◌≤◌}
 use native.Mathlib.Nat.{zero-add}
@@ -7,7 +7,8 @@ use native.Mathlib.Numerals.{add-one}
 use native.Mathlib.Omega.{arith}
 use native.Mathlib.Decide.{dec_lt, ℕ_discrete}
 use borrow.Rule.Slice.PartMut.{put_mid}
-use lib.ListN.{length, get_or, take, drop, length-take, length-drop, get_or-eq_default}
+use lib.ListN.{length, get_or, take, drop, length-take, length-drop}
+use Rattle.std.proofs.Math.Seq.{take-append_seam}
 use Rattle.field.specs.Field.{◌⊕◌, mul}
 use Rattle.field.specs.Scaled.{scaled_add}
 use Rattle.field.proofs.Xor.{⊕_assoc, ⊕_zero_l, ⊕_zero_r}
@@ -43,7 +44,7 @@ sources {coef} {xs} {len} m z k = record { inside = λ s l n. at s l n (dec_lt s
     at s l n (yes j) = omega (arith, under len s m j)
     at s l n (no j) = absurd (n (z s (omega arith) l))
 
--- ---- `add_block`
+-- ---- a turn of `combine`
 
 -- a block whose coefficient is zero adds nothing
 pub added_none : (coef xs : List ℕ) (len from s : ℕ) (acc : List ℕ) → get_or coef s 0 ≡ 0 → Added coef xs len from s acc acc
@@ -97,66 +98,42 @@ combined_more {coef} {xs} {len} {from} {s} {acc} {r} {t} C A =
 
 -- ---- `gather`
 
-module _ (zeros : List ℕ) (none : (x : ℕ) → get_or zeros x 0 ≡ 0) where
-  part_none : (k x : ℕ) → get_or (take k (drop 0 zeros)) x 0 ≡ 0
-  part_none k x = at (dec_lt x k)
-    where
-      at : Dec (x < k) → get_or (take k (drop 0 zeros)) x 0 ≡ 0
-      at (yes l) = get_d_part zeros 0 k x l ∙ none (0 + x)
-      at (no l) = get_or-eq_default (take k (drop 0 zeros)) 0 (rw length-take (omega arith))
+-- onto zeros
+pub gathered : {coef xs acc r : List ℕ} (len : ℕ) → length acc ≡ len → ((x : ℕ) → x < len → get_or acc x 0 ≡ 0)
+    → Combined coef xs len 0 (length coef) acc r → Gathered coef xs len r
+gathered {coef} {xs} {acc} {r} len long none C =
+    record {
+      long = C.long ∙ long;
+      at = λ x h. C.at x (omega (arith, long)) ∙ ap₂ ◌⊕◌ (none x h) (ap whole (zero-add x)) ∙ ⊕_zero_l (whole x);
+    }
+  where
+    whole : ℕ → ℕ
+    whole = comb (length coef) (vec coef) (byte_of len xs)
 
-  -- onto zeros
-  pub gathered : {coef xs acc r : List ℕ} (len : ℕ) → len ≤ length zeros → acc ≡ take (len - 0) (drop 0 zeros)
-      → Combined coef xs len 0 (length coef) acc r → Gathered coef xs len r
-  gathered {coef} {xs} {acc} {r} len l e C =
-      record {
-        long = C.long ∙ long;
-        at = λ x h.
-            C.at x (omega (arith, long))
-            ∙ ap₂ ◌⊕◌ (ap (λ (u : List ℕ). get_or u x 0) e ∙ part_none (len - 0) x) (ap whole (zero-add x))
-            ∙ ⊕_zero_l (whole x);
-      }
-    where
-      whole : ℕ → ℕ
-      whole = comb (length coef) (vec coef) (byte_of len xs)
+-- ---- `make`
 
-      long : length acc ≡ len
-      long = ap length e ∙ simp (length-take, length-drop) (omega arith)
+-- what is made beside the stripe is copied in as block b
+pub copied_in : {coef xs made block : List ℕ} (len b : ℕ) (beside : List ℕ) → Gathered coef xs len made → b * len + len ≤ length xs
+    → block ≡ take len (made ++ beside) → Made coef len b xs (put_mid (b * len) (b * len + len - b * len) xs block)
+copied_in {coef} {xs} {made} {block} len b beside G h e =
+    record {
+      long = put_length xs block a k room long;
+      block = λ x i. put_within xs block a k room long x (omega arith) ∙ ap (λ (u : List ℕ). get_or u x 0) same ∙ G.at x i;
+      before = λ p i. put_before xs block a k room long p i;
+      after = λ p i. put_after xs block a k room long p (omega arith);
+    }
+  where
+    a : ℕ
+    a = b * len
 
-  -- ---- `make`
+    k : ℕ
+    k = b * len + len - b * len
 
-  module _ {coef xs made : List ℕ} (len : ℕ) (l : len ≤ length zeros)
-      (C : Combined coef xs len 0 (length coef) (take (len - 0) (drop 0 zeros)) made) where
-    made_length : length made ≡ len - 0
-    made_length = omega (arith, (gathered len l refl C).long)
+    same : block ≡ made
+    same = e ∙ ap (λ (n : ℕ). take n (made ++ beside)) (sym G.long) ∙ take-append_seam made beside
 
-    pub room_left : len ≤ length (put_mid 0 (len - 0) zeros made)
-    room_left = omega (arith, put_length zeros made 0 (len - 0) (omega arith) made_length)
+    room : a + k ≤ length xs
+    room = omega arith
 
-    -- what is made beside the stripe is copied in as block b
-    pub copied_in : {block : List ℕ} (b : ℕ) → b * len + len ≤ length xs → block ≡ take (len - 0) (drop 0 (put_mid 0 (len - 0) zeros made))
-        → Made coef len b xs (put_mid (b * len) (b * len + len - b * len) xs block)
-    copied_in {block} b h e =
-        record {
-          long = put_length xs block a k room long;
-          block = λ x i.
-              put_within xs block a k room long x (omega arith)
-              ∙ ap (λ (u : List ℕ). get_or u x 0) e
-              ∙ get_d_part (put_mid 0 (len - 0) zeros made) 0 (len - 0) x (omega arith)
-              ∙ put_within zeros made 0 (len - 0) (omega arith) made_length x (omega arith)
-              ∙ (gathered len l refl C).at x i;
-          before = λ p i. put_before xs block a k room long p i;
-          after = λ p i. put_after xs block a k room long p (omega arith);
-        }
-      where
-        a : ℕ
-        a = b * len
-
-        k : ℕ
-        k = b * len + len - b * len
-
-        room : a + k ≤ length xs
-        room = omega arith
-
-        long : length block ≡ k
-        long = ap length e ∙ simp (length-take, length-drop) (omega (arith, room_left))
+    long : length block ≡ k
+    long = omega (arith, G.long, ap length same)

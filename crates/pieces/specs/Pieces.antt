@@ -12,7 +12,7 @@ use Rattle.calls.specs.Calls.{byte_of}
 pub record Sources (xs coef : List ℕ) (len : ℕ) : Type 0 where
   pub inside : (s : ℕ) → s < length coef → (get_or coef s 0 ≡ 0 → ⊥) → s * len + len ≤ length xs
 
--- what `add_block` leaves: block s times its coefficient is added
+-- what a turn of `combine` leaves: block s times its coefficient is added
 pub record Added (coef xs : List ℕ) (len from s : ℕ) (acc r : List ℕ) : Type 0 where
   pub long : length r ≡ length acc
   pub at : (x : ℕ) → x < length acc → get_or r x 0 ≡ get_or acc x 0 ⊕ mul (get_or coef s 0) (byte_of len xs s (from + x))

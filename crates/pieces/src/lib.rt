@@ -4,45 +4,22 @@
 pub mod encoding;
 
 ghost use Rattle.std.specs.Prelude.{◌≡◌, ◌+◌, ◌<◌, ◌≤◌, length};
-ghost use Rattle.pieces.specs.Pieces.{Sources, Added, Combined, Makeable, Gathered, Made};
-
-fn copy(dst: &mut [u8], src: &[u8])
-    requires { length src.now ≡ length dst.old }
-    ensures { dst.new ≡ src.now }
-{
-    let mut i = 0;
-    while i < dst.len() {
-        dst[i] = src[i];
-        i += 1;
-    }
-}
-
-// Adds block s times its coefficient. A block whose coefficient is zero is passed over, so that a lost block's bytes are never read.
-fn add_block(acc: &mut [u8], stripe: &[u8], coef: &[u8], len: usize, from: usize, s: usize)
-    requires sources { Sources stripe.now coef.now len }
-    requires acc_bound { from + length acc.old ≤ len }
-    requires s_in_bounds { s < length coef.now }
-    ensures { Added coef.now stripe.now len from s acc.old acc.new }
-{
-    let c = coef[s];
-    if c == 0 {
-        return;
-    }
-    let at = s * len + from;
-    let end = at + acc.len();
-    field::scaled_add(acc, &stripe[at..end], c);
-}
+ghost use Rattle.pieces.specs.Pieces.{Sources, Combined, Makeable, Gathered, Made};
 
 // Adds coefficient times block for every block, at the positions from `from` on. The start makes room for blocks that come in pieces.
+// A block whose coefficient is zero is passed over, so that a lost block's bytes are never read.
+// Stays: stripe, coef and len are no struct of three, here and in `gather`: `make` writes the stripe that the struct would hold lent.
 pub fn combine(acc: &mut [u8], stripe: &[u8], coef: &[u8], len: usize, from: usize)
     requires sources { Sources stripe.now coef.now len }
     requires acc_bound { from + length acc.old ≤ len }
     ensures { Combined coef.now stripe.now len from (length coef.now) acc.old acc.new }
 {
-    let mut s = 0;
-    while s < coef.len() {
-        add_block(acc, stripe, coef, len, from, s);
-        s += 1;
+    for (s, &c) in coef.iter().enumerate() {
+        if c == 0 {
+            continue;
+        }
+        let at = s * len + from;
+        field::scaled_add(acc, &stripe[at..at + acc.len()], c);
     }
 }
 
@@ -52,8 +29,7 @@ pub fn gather(out: &mut [u8], stripe: &[u8], coef: &[u8], len: usize)
     requires out_len { (length out.old ≡ len) × (len ≤ 1024) }
     ensures { Gathered coef.now stripe.now len out.new }
 {
-    let zeros = [0u8; 1024];
-    copy(out, &zeros[0..len]);
+    out.fill(0);
     combine(out, stripe, coef, len, 0);
 }
 
@@ -63,8 +39,7 @@ pub fn make(stripe: &mut [u8], coef: &[u8], len: usize, b: usize)
     ensures { Made coef.now len b stripe.old stripe.new }
 {
     let mut block = [0u8; 1024];
-    combine(&mut block[0..len], stripe, coef, len, 0);
+    combine(&mut block[..len], stripe, coef, len, 0);
     let at = b * len;
-    let end = at + len;
-    copy(&mut stripe[at..end], &block[0..len]);
+    stripe[at..at + len].copy_from_slice(&block[..len]);
 }

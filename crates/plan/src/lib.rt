@@ -9,11 +9,13 @@ ghost use Rattle.linear.specs.Solved.{vec, Survivors, Solved};
 ghost use Rattle.plan.specs.Codes.{InRange};
 ghost use Rattle.plan.specs.Front.{FrontSays};
 ghost use Rattle.plan.specs.Listing.{blank, offered, list_of};
-ghost use Rattle.plan.specs.Plans.{Plans, refusal};
+ghost use Rattle.plan.specs.Plans.{Plans};
+ghost use Rattle.plan.specs.Refusals.{number};
 ghost use Rattle.plan.specs.Inner.{row_list, Coefficients};
 
 use groups::Layout;
 
+// Stays: a layout and a standing are arguments of each call, here and in the crates above. C lends them one by one, and `price` and `read` take one or none.
 // The standing of a stripe: L, and the set of lost blocks, bit b being block b's mark. Every value has a meaning.
 #[repr(C)]
 #[derive(Clone, Copy)]
@@ -22,14 +24,33 @@ pub struct Standing {
     pub lost: u64,
 }
 
-// Accepted, or refused with a number of document 01's table.
-#[derive(Clone, Copy)]
-pub enum Answer {
-    Done,
-    Refused(u8),
+// Why a call is refused: document 01's table from 6 on, in its order.
+#[derive(Clone, Copy, PartialEq, Eq)]
+pub enum Refusal {
+    Layout = 6, // a layout that no accepted note gives
+    Length, // L outside its range, or a stripe that is not n x L bytes
+    Marks, // a lost mark at n or above
+    Block, // a block number not below n; in a correction, not below k
+    Present, // repair of, or plan for, a block not lost
+    Lost, // correction or loss of a block already lost
+    Range, // offset plus difference passes L
+    Spare, // a spare that is not exactly L bytes
+    NoPlan, // the lost block to be planned, repaired or read, or in a rebuild any lost block, has no plan
+    NotANumber, // a price limit that is not a number
+    Unprotected, // a data block lost alone has no plan
+}
+
+impl Refusal {
+    // Its number in document 01's table.
+    pub fn number(self) -> u8
+        ensures { result ≡ number self }
+    {
+        self as u8
+    }
 }
 
 // A plan: how many blocks it reads, their numbers, rising, and their coefficients. Entries that are not in use are 0.
+// Stays: two arrays with their length beside them are the C interface (store_plan_list in include/store.h).
 #[repr(C)]
 #[derive(Clone, Copy)]
 pub struct Plan {
@@ -38,70 +59,55 @@ pub struct Plan {
     pub coef: [u8; 32],
 }
 
-// The answer to the question for a plan; where it is refused, the blank plan.
-#[derive(Clone, Copy)]
-pub struct Planned {
-    pub answer: Answer,
-    pub plan: Plan,
-}
-
-fn none() -> Plan
-    ensures { result ≡ blank }
-{
-    let block = [0u8; 32];
-    let coef = [0u8; 32];
-    Plan {
-        reads: 0,
-        block: block,
-        coef: coef,
+impl Plan {
+    // No block is listed; the plan that the C interface gives beside a refusal.
+    pub fn none() -> Plan
+        ensures { result ≡ blank }
+    {
+        Plan {
+            reads: 0,
+            block: [0; 32],
+            coef: [0; 32],
+        }
     }
-}
 
-// Lists block s with coefficient c, unless c is zero.
-fn offer(p: Plan, s: u8, c: u8) -> Plan
-    requires { 0 < c → p.reads < 32 }
-    ensures { result ≡ offered p s c }
-{
-    if c == 0 {
-        return p;
+    // Lists block s with coefficient c, unless c is zero.
+    fn offer(&mut self, s: u8, c: u8)
+        requires { 0 < c → self.old.reads < 32 }
+        ensures { self.new ≡ offered self.old s c }
+    {
+        if c != 0 {
+            self.block[self.reads] = s;
+            self.coef[self.reads] = c;
+            self.reads += 1;
+        }
     }
-    let mut q = p;
-    let n = q.reads;
-    q.block[n] = s;
-    q.coef[n] = c;
-    q.reads = n + 1;
-    q
 }
 
 // The listing of coefficients by block number.
-fn listed(coef: &[u8]) -> Plan
-    requires coef_len { length coef.now ≡ 48 }
-    requires coef_bound { tally (vec coef.now) 48 ≤ 32 }
+fn listed(coef: &[u8; 48]) -> Plan
+    requires { tally (vec coef.now) 48 ≤ 32 }
     ensures { result ≡ list_of (vec coef.now) 48 }
 {
-    let mut p = none();
-    let mut s: usize = 0;
-    while s < 48 {
-        let c = coef[s];
-        p = offer(p, s as u8, c);
-        s += 1;
+    let mut p = Plan::none();
+    for (s, c) in coef.iter().enumerate() {
+        p.offer(s as u8, *c);
     }
     p
 }
 
 // What the elimination answers where the target is row b of the matrix itself.
-fn solve_row(matrix: &[u8], order: &[u8], m: usize, b: usize) -> linear::Answer
+fn solve_row(matrix: &[u8; 1536], order: &[u8; 48], m: usize, b: usize) -> Option<[u8; 48]>
     requires survivors { Survivors matrix.now order.now m }
     requires b_bound { b < 48 }
     ensures { Solved matrix.now order.now m (row_list matrix.now b) result }
 {
-    let from = b * 32;
-    let to = from + 32;
-    linear::solve(matrix, order, m, &matrix[from..to])
+    linear::solve(matrix, order, m, &matrix[b * 32..b * 32 + 32])
 }
 
-// The coefficients of block b's plan by block number, the marks of `lost` standing.
-pub fn coefficients(l: Layout, lost: u64, b: usize) -> linear::Answer
+// The coefficients of block b's plan by block number, the marks of `lost` standing; None where it has no plan.
+// Stays: that l is given is a clause and no type, as in `rows`.
+pub fn coefficients(l: Layout, lost: u64, b: usize) -> Option<[u8; 48]>
     requires given { Given l }
     requires b_bound { b < blocks l }
     ensures { Coefficients l lost b result }
@@ -109,66 +115,39 @@ pub fn coefficients(l: Layout, lost: u64, b: usize) -> linear::Answer
     let mut matrix = [0u8; 1536];
     rows::matrix(l, &mut matrix);
     let v = visits::visit(l, lost, b);
-    let count = v.count;
-    let order = v.blocks;
-    solve_row(&matrix, &order, count, b)
+    solve_row(&matrix, &v.blocks, v.count, b)
 }
 
-// 6, 7 or 8 where it applies, in this order; otherwise 0. Of 7, L alone is asked.
-pub fn front(l: Layout, st: Standing) -> u8
+// 6, 7 or 8 where it applies, in this order. Of 7, L alone is asked.
+// Stays: the range of L stands here, in shape and in input, one expression each: a function for it would need a promise of its own and say no more.
+pub fn front(l: Layout, st: Standing) -> Result<(), Refusal>
     ensures { FrontSays l st (InRange st.len) result }
 {
     if !given::known(l) {
-        return 6;
+        return Err(Refusal::Layout);
     }
-    let len = st.len;
-    if len < 1 {
-        return 7;
+    if !(1..=1024).contains(&st.len) {
+        return Err(Refusal::Length);
     }
-    if 1024 < len {
-        return 7;
+    if !marks::none_from(st.lost, l.k + l.r) {
+        return Err(Refusal::Marks);
     }
-    let n = l.k + l.r;
-    if !marks::none_from(st.lost, n) {
-        return 8;
-    }
-    0
-}
-
-fn refuse(number: u8) -> Planned
-    ensures { result ≡ refusal number }
-{
-    let p = none();
-    Planned {
-        answer: Answer::Refused(number),
-        plan: p,
-    }
+    Ok(())
 }
 
 // The plan of block b, the lowest refusal that applies being given first.
-pub fn plan_of(l: Layout, st: Standing, b: usize) -> Planned
+// Stays: 9, 10 and 14 are asked here as in a repair, since each call asks its own needs in its own order (`needs` of calls), two lines to a need.
+pub fn plan_of(l: Layout, st: Standing, b: usize) -> Result<Plan, Refusal>
     ensures { Plans l st b result }
 {
-    let f = front(l, st);
-    if f != 0 {
-        return refuse(f);
-    }
+    front(l, st)?;
     let n = l.k + l.r;
     if n <= b {
-        return refuse(9);
+        return Err(Refusal::Block);
     }
-    let lost = st.lost;
-    if !marks::holds(lost, b) {
-        return refuse(10);
+    if !marks::holds(st.lost, b) {
+        return Err(Refusal::Present);
     }
-    let a = coefficients(l, lost, b);
-    if !a.found {
-        return refuse(14);
-    }
-    let coef = a.coef;
-    let p = listed(&coef);
-    Planned {
-        answer: Answer::Done,
-        plan: p,
-    }
+    let coef = coefficients(l, st.lost, b).ok_or(Refusal::NoPlan)?;
+    Ok(listed(&coef))
 }

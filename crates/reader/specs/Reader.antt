@@ -2,18 +2,17 @@
 -- the group at its place, any place, and is moved behind it.
 use Rattle.std.specs.Prelude.{ℕ, List, length}
 use Rattle.std.specs.Borrow.{Bor}
-use Rattle.groups.specs.declared.Walk.{Walk}
-use Rattle.groups.specs.Groups.{if_lt, blank, refused_at}
+use Rattle.groups.specs.Groups.{State, if_lt, blank, refused_at}
 use Rattle.note.specs.Note.{group_read}
 use Rattle.reader.specs.declared.Reader.{Reader}
 
 -- the walk at the place `at`, with nothing read
-abbrev pub walk_at : ℕ → Walk
+abbrev pub walk_at : ℕ → State
 walk_at at = record { lay = blank; at = at; fault = 0 }
 
 -- the group at the place `at` of the note s, read as a top record: nesting 1, no rows round it, and it may run to the end of the note. Past the end: 1,
 -- fewer than 4 bytes remain
-unfoldable pub group_from : List ℕ → ℕ → Walk
+unfoldable pub group_from : List ℕ → ℕ → State
 group_from s at =
     if_lt (length s) at
     (refused_at 1 at (walk_at at))
@@ -24,7 +23,7 @@ abbrev pub started : Bor (List ℕ) → Reader
 started note = record { note = note; at = 0 }
 
 -- the group at the reader's place
-abbrev pub group_here : Reader → Walk
+abbrev pub group_here : Reader → State
 group_here r = group_from r.note.now r.at
 
 -- the reader moved behind the group at its place, or to the offset of the fault

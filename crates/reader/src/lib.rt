@@ -2,91 +2,72 @@
 #![tactic(auto)]
 
 ghost use Rattle.std.specs.Prelude.{◌≡◌};
-ghost use Rattle.note.specs.Note.{read_note, reading};
+ghost use Rattle.groups.specs.Groups.{walked};
+ghost use Rattle.note.specs.Note.{read_note, outcome};
 ghost use Rattle.reader.specs.Reader.{group_from, started, group_here, past_group};
 
-use groups::Walk;
-use note::Reading;
+use groups::{Around, Fault, Layout, Stopped, Walk};
+use note::Refused;
 
 // A reference to the note's bytes, and a cursor.
-#[derive(Drop)]
+#[derive(Clone, Copy)]
 pub struct Reader<'a> {
     pub note: &'a [u8],
     pub at: usize,
 }
 
-// The group whose record starts at `at`, read as a top record: its layout, the place behind it, and the fault found (0: none), whose offset is then the place.
-fn group_at(note: &[u8], at: usize) -> Walk
-    ensures { result ≡ group_from note.now at }
-{
-    let none = groups::empty();
-    let mut w = Walk {
-        lay: none,
-        at: at,
-        fault: 0,
-    };
-    if note.len() < at {
-        w.fault = 1;
-        return w;
+impl<'a> Reader<'a> {
+    // The reader at the first byte of a note.
+    pub fn start(note: &'a [u8]) -> Reader<'a>
+        ensures { result ≡ started note.entry }
+    {
+        Reader { note, at: 0 }
     }
-    note::reader::read_group(note, w, note.len(), 1, 0)
-}
 
-// The place behind that group, or the offset of the fault.
-fn reached(note: &[u8], at: usize) -> usize
-    ensures { result ≡ (group_from note.now at).at }
-{
-    let w = group_at(note, at);
-    w.at
-}
+    // The group at the reader's place, read as a top record: its layout, and the place behind it; or the fault found.
+    pub fn group(self) -> Result<Walk, Stopped>
+        ensures { walked result ≡ group_here self.entry }
+    {
+        let w = Walk {
+            lay: groups::empty(),
+            at: self.at,
+        };
+        if self.note.len() < self.at {
+            return Err(w.stop(Fault::End, self.at));
+        }
+        let around = Around {
+            end: self.note.len(),
+            level: 1,
+            rows: 0,
+        };
+        note::reader::read_group(self.note, w, around)
+    }
 
-// The reader at the first byte of a note.
-pub fn start<'a>(note: &'a [u8]) -> Reader<'a>
-    ensures { result ≡ started note.entry }
-{
-    Reader { note: note, at: 0 }
-}
-
-// The group at the reader's place.
-pub fn group<'a>(r: Reader<'a>) -> Walk
-    ensures { result ≡ group_here r.entry }
-{
-    group_at(r.note, r.at)
-}
-
-// The reader moved behind the group at its place, or to the offset of the fault.
-pub fn behind<'a>(r: Reader<'a>) -> Reader<'a>
-    ensures { result ≡ past_group r.entry }
-{
-    Reader {
-        note: r.note,
-        at: reached(r.note, r.at),
+    // The reader moved behind the group at its place, or to the offset of the fault.
+    pub fn behind(self) -> Reader<'a>
+        ensures { result ≡ past_group self.entry }
+    {
+        let at = match self.group() {
+            Ok(w) => w.at,
+            Err(e) => e.walk.at,
+        };
+        Reader {
+            note: self.note,
+            at,
+        }
     }
 }
 
 // The first group of a note.
-pub fn top(note: &[u8]) -> Walk
-    ensures { result ≡ group_from note.now 0 }
+pub fn top(note: &[u8]) -> Result<Walk, Stopped>
+    ensures { walked result ≡ group_from note.now 0 }
 {
-    group(start(note))
+    Reader::start(note).group()
 }
 
-// Reads a note, judged by its first group: a fault, bytes after it (4), or its layout.
-pub fn read(note: &[u8]) -> Reading
-    ensures { result ≡ reading (read_note note.now) }
+// Reads a note, judged by its first group: a fault, bytes after it, or its layout.
+pub fn read(note: &[u8]) -> Result<Layout, Refused>
+    ensures { outcome result ≡ read_note note.now }
 {
-    let w = top(note);
-    let at = w.at;
-    let fault = w.fault;
-    if fault != 0 {
-        return note::refused(fault, at);
-    }
-    if at < note.len() {
-        return note::refused(4, at);
-    }
-    let lay = w.lay;
-    Reading {
-        answer: note::Answer::Accepted,
-        layout: lay,
-    }
+    note::finish(note.len(), top(note))
 }

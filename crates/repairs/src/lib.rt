@@ -3,86 +3,52 @@
 
 mod turns;
 
+ghost use Rattle.std.specs.Prelude.{◌≡◌};
 ghost use Rattle.repairs.specs.Repairs.{RepairsOne, RebuildsAll};
+ghost use Rattle.repairs.specs.declared.Unrebuilt.TheVariants.{Refused};
 
 use groups::Layout;
-use plan::{Answer, Standing};
-use shape::Stood;
+use plan::{Refusal, Standing};
 
-// A rebuild is accepted, refused by its number, or refused with 14, naming the lowest lost block that has no plan.
-#[derive(Clone, Copy)]
-pub enum Rebuilding {
-    Whole,
-    Denied(u8),
+// Why a rebuild is refused: as a call is, or with 14, naming the lowest lost block that has no plan.
+#[derive(Clone, Copy, PartialEq, Eq)]
+pub enum Unrebuilt {
+    Refused(Refusal),
     NoPlan(usize),
 }
 
-// The standing after a rebuild, and its answer.
-#[derive(Clone, Copy)]
-pub struct Rebuilt {
-    pub standing: Standing,
-    pub answer: Rebuilding,
+impl From<Refusal> for Unrebuilt {
+    ghost from_gives = { λ e u. u ≡ Refused e };
+
+    fn from(e: Refusal) -> Unrebuilt {
+        Unrebuilt::Refused(e)
+    }
 }
 
-// Writes lost block b by its plan, and clears its mark.
-pub fn repair_by(l: Layout, st: Standing, stripe: &mut [u8], b: usize) -> Stood
+// Writes lost block b by its plan, and clears its mark. Answers the standing that is left.
+pub fn repair_by(l: Layout, st: Standing, stripe: &mut [u8], b: usize) -> Result<Standing, Refusal>
     ensures { RepairsOne l st b stripe.old stripe.new result }
 {
-    let f = shape::front(l, st, stripe.len());
-    if f != 0 {
-        return shape::refuse(st, f);
+    shape::front(l, st, stripe.len())?;
+    if l.k + l.r <= b {
+        return Err(Refusal::Block);
     }
-    let n = l.k + l.r;
-    if n <= b {
-        return shape::refuse(st, 9);
+    if !marks::holds(st.lost, b) {
+        return Err(Refusal::Present);
     }
-    let lost = st.lost;
-    if !marks::holds(lost, b) {
-        return shape::refuse(st, 10);
-    }
-    let a = plan::coefficients(l, lost, b);
-    if !a.found {
-        return shape::refuse(st, 14);
-    }
-    let len = st.len;
-    let coef = a.coef;
-    pieces::make(stripe, &coef, len, b);
-    let m = marks::without(lost, b);
-    let mended = Standing { len: len, lost: m };
-    Stood {
-        standing: mended,
-        answer: Answer::Done,
-    }
+    let coef = plan::coefficients(l, st.lost, b).ok_or(Refusal::NoPlan)?;
+    pieces::make(stripe, &coef, st.len, b);
+    let lost = marks::without(st.lost, b);
+    Ok(Standing { lost, ..st })
 }
 
-// Repairs every lost block in rising order, once each is known to have a plan.
-pub fn rebuild_by(l: Layout, st: Standing, stripe: &mut [u8]) -> Rebuilt
+// Repairs every lost block in rising order, once each is known to have a plan. Answers the standing that is left.
+pub fn rebuild_by(l: Layout, st: Standing, stripe: &mut [u8]) -> Result<Standing, Unrebuilt>
     ensures { RebuildsAll l st stripe.old stripe.new result }
 {
-    let f = shape::front(l, st, stripe.len());
-    if f != 0 {
-        return Rebuilt {
-            standing: st,
-            answer: Rebuilding::Denied(f),
-        };
+    shape::front(l, st, stripe.len())?;
+    if let Some(b) = turns::lowest(l, st.lost) {
+        return Err(Unrebuilt::NoPlan(b));
     }
-    let n = l.k + l.r;
-    let lost = st.lost;
-    let w = turns::lowest(l, lost, n);
-    if w < n {
-        return Rebuilt {
-            standing: st,
-            answer: Rebuilding::NoPlan(w),
-        };
-    }
-    let len = st.len;
-    let left = turns::restore(l, lost, stripe, len, n);
-    let whole = Standing {
-        len: len,
-        lost: left,
-    };
-    Rebuilt {
-        standing: whole,
-        answer: Rebuilding::Whole,
-    }
+    Ok(turns::restore(l, st, stripe))
 }

@@ -7,13 +7,11 @@ use native.Mathlib.Omega.{arith}
 use native.Mathlib.Nat.{zero-add}
 use lib.ListN.{length, get_or, take, drop, length-append, length-drop}
 use lib.Seq.{take_all, sets-eq}
-use Rattle.note.specs.Note.{Bytes, length_at, read_note, Outcome, reading}
+use Rattle.note.specs.Note.{Bytes, length_at, read_note}
 use Rattle.note.specs.Note.Outcome.{layout, refusal}
 use Rattle.given.specs.Given.{Given}
+use Rattle.given.proofs.Facts.{given_proper}
 use Rattle.groups.specs.declared.Layout.{Layout}
-use Rattle.note.specs.declared.Reading.{Reading}
-use Rattle.note.specs.declared.Answer.TheVariants.{Accepted, Refused}
-use Rattle.given.proofs.RoundTrip.{accepted_told}
 use Rattle.linear.proofs.Sets.{in_and_out}
 use Rattle.marks.specs.Marks.{marked, none_from}
 use Rattle.marks.proofs.Bits.{none_from_lem}
@@ -36,6 +34,9 @@ refused_room number out h = simp length-append (omega (arith, decimal_short numb
 
 pub layout_short : (k n : ℕ) → length (layout_text k n) ≤ 15
 layout_short k n = simp length-append (omega (arith, decimal_short k, decimal_short n))
+
+pub given_small : (l : Layout) → Given l → (l.k ≤ 32) × (blocks l ≤ 48)
+given_small l g = ((given_proper l g).k, (given_proper l g).n)
 
 -- ---- what follows the note
 
@@ -80,20 +81,8 @@ part_below (suc n) (x ∷ s) b (suc i) = part_below n s (λ j. b (suc j)) i
 pub bytes_part : (n : ℕ) (s : List ℕ) → ((j : ℕ) → get_or s j 0 < 256) → Bytes (take n s)
 bytes_part n s b = record { below = part_below n s b }
 
-pub accepted : (s : List ℕ) (r : Reading) → Bytes s → r ≡ reading (read_note s) → r.answer ≡ Accepted → Given r.layout
-accepted s r b e a =
-    let t = accepted_told s r r.layout true b e a refl in
-    record { note = s; bytes = b; gives = t.gives }
-
-accepted_outcome : (o : Outcome) (r : Reading) → r ≡ reading o → r.answer ≡ Accepted → o ≡ layout r.layout
-accepted_outcome (layout x) r e a = ap (λ (z : Reading). layout z.layout) (sym e)
-accepted_outcome (refusal number offset) r e a =
-    let y = sym a ∙ ap (λ (z : Reading). z.answer) e in
-    let z : ◌≡◌ {A = ℕ} 0 1 = cc in absurd (omega arith)
-
-refused_outcome : (o : Outcome) (number offset : ℕ) → (reading o).answer ≡ Refused number offset → o ≡ refusal number offset
-refused_outcome (layout x) number offset a = let z : ◌≡◌ {A = ℕ} 0 1 = cc in absurd (omega arith)
-refused_outcome (refusal m k) number offset a = let p : m ≡ number = cc in let q : k ≡ offset = cc in rw (p, q)
+pub accepted : (s : List ℕ) (l : Layout) → Bytes s → layout l ≡ read_note s → Given l
+accepted s l b e = record { note = s; bytes = b; gives = sym e }
 
 -- ---- the input
 
@@ -104,21 +93,14 @@ module _ (s : List ℕ) (e : ℕ) (p : Parted s e) (h : 2 ≤ length s → lengt
       let t : take (length s - e) (drop e s) ≡ drop (note_size s) s = take_all (length s - e) (drop e s) (omega (arith, length-drop e s)) ∙ p.rest in
       met {text = text} h (rw q (subst (λ (x : List ℕ). Follows l x text) t f))
 
-  pub written_sound : {a b : List ℕ} {r : ℕ} (x : Reading) → x ≡ reading (read_note (take e s)) → x.answer ≡ Accepted
-      → Written (Follows x.layout (take (length s - e) (drop e s))) 12288 0 a b r → Written (Says s) 12288 0 a b r
-  written_sound x q o w =
-      record {
-        text = w.text;
-        holds = says_follow x.layout (accepted_outcome (read_note (take e s)) x q o) w.holds;
-        short = w.short;
-        put = w.put;
-      }
+  pub written_sound : {a b : List ℕ} {r : ℕ} (l : Layout) → layout l ≡ read_note (take e s)
+      → Written (Follows l (take (length s - e) (drop e s))) 12288 0 a b r → Written (Says s) 12288 0 a b r
+  written_sound l q w = record { text = w.text; holds = says_follow l (sym q) w.holds; short = w.short; put = w.put }
 
-  pub written_refused : {a b : List ℕ} {r : ℕ} (x : Reading) (number offset : ℕ) → x ≡ reading (read_note (take e s)) → x.answer ≡ Refused number offset
+  pub written_refused : {a b : List ℕ} {r : ℕ} (number offset : ℕ) → refusal number offset ≡ read_note (take e s)
       → Put (refused_text number) 0 a b r → Written (Says s) 12288 0 a b r
-  written_refused x number offset q o w =
-      let g : read_note (take (note_size s) s) ≡ refusal number offset =
-      ap read_note (sym p.note) ∙ refused_outcome (read_note (take e s)) number offset (ap (λ (z : Reading). z.answer) (sym q) ∙ o) in
+  written_refused number offset q w =
+      let g : read_note (take (note_size s) s) ≡ refusal number offset = ap read_note (sym p.note) ∙ sym q in
       record {
         text = refused_text number;
         holds = met {text = refused_text number} h (rw g refl);

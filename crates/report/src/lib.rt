@@ -3,12 +3,28 @@
 
 ghost use Rattle.std.specs.Prelude.{◌≤◌, length};
 ghost use Rattle.given.specs.Given.{Given};
+ghost use Rattle.text.specs.Text.{refused_text};
+ghost use Rattle.text.specs.Put.{Room, Put};
 ghost use Rattle.losses.specs.Inner.{Written};
 ghost use Rattle.report.specs.Report.{Follows, Report};
 
-use groups::Layout;
+use groups::{Fault, Layout};
+use plan::Refusal;
+use text::Writer;
+
+// A refusal, and nothing else.
+fn refused(out: &mut [u8], number: u8) -> usize
+    requires { Room (refused_text number) 0 out.old }
+    ensures { Put (refused_text number) 0 out.old out.new result }
+{
+    let mut w = Writer { out, at: 0 };
+    w.put_refused(number);
+    w.at
+}
 
 // The report where the note is sound: `rest` is what follows it.
+// Stays: that l is given is a clause and no type, as in `rows`.
+#[tactic(auto, using(crate::proofs::Reports::refused_room, crate::proofs::Reports::layout_short))]
 fn follow(rest: &[u8], l: Layout, out: &mut [u8]) -> usize
     requires given { Given l }
     requires in_bounds { 12288 ≤ length out.old }
@@ -16,16 +32,19 @@ fn follow(rest: &[u8], l: Layout, out: &mut [u8]) -> usize
 {
     let n = l.k + l.r;
     if !input::whole(rest, n) {
-        return text::put_refused(out, 0, 7);
+        return refused(out, Refusal::Length.number());
     }
     let st = input::standing_in(rest);
     if !marks::none_from(st.lost, n) {
-        return text::put_refused(out, 0, 8);
+        return refused(out, Refusal::Marks.number());
     }
-    let at = text::put_layout(out, 0, l.k as u8, n as u8);
-    losses::put_lines(out, at, l, st, n)
+    let mut w = Writer { out, at: 0 };
+    w.put_layout(l.k as u8, n as u8);
+    losses::put_lines(&mut w, l, st, n);
+    w.at
 }
 
+// Stays: 0 where there is no room, and no Option: `Report` and `report_unique` say so of the number.
 // The text for an input. 12,288 bytes hold the longest one; with less room nothing is written, and 0 is answered.
 pub fn report(input: &[u8], out: &mut [u8]) -> usize
     ensures { Report input.now out.old out.new result }
@@ -34,17 +53,11 @@ pub fn report(input: &[u8], out: &mut [u8]) -> usize
         return 0;
     }
     if !input::readable(input) {
-        return text::put_refused(out, 0, 5);
+        return refused(out, Fault::Bounds.number());
     }
     let end = input::note_end(input);
-    let r = note::read_note(&input[..end]);
-    let answer = r.answer;
-    let l = r.layout;
-    match answer {
-        note::Answer::Accepted => follow(&input[end..], l, out),
-        note::Answer::Refused {
-            number: number,
-            offset: _,
-        } => text::put_refused(out, 0, number),
+    match note::read_note(&input[..end]) {
+        Ok(l) => follow(&input[end..], l, out),
+        Err(e) => refused(out, e.fault.number()),
     }
 }

@@ -1,6 +1,6 @@
--- Inside: what the functions below the public ones ask and answer, said of the group or of the bytes that they are handed. No public contract
+-- Inside: what the functions below the public ones ask and answer, said of the group that they are handed. No public contract
 -- names it.
-use Rattle.std.specs.Prelude.{Bool, cond, List, ◌≡◌, ℕ, ◌+◌, ◌-◌, ◌<◌, ◌≤◌, ltb, length, get_or}
+use Rattle.std.specs.Prelude.{Bool, cond, ℕ, ◌+◌, ◌-◌, ◌<◌, ◌≤◌, ltb}
 use Rattle.linear.specs.Sums.{unit}
 use Rattle.groups.specs.declared.Group.{Group}
 use Rattle.rows.specs.Rows.{among, part}
@@ -30,11 +30,3 @@ pub record Homed (g : Group) (k n b : ℕ) : Type 0 where
   pub fit : Fit g k
   pub from : k ≤ b → b < n → k + g.redundant ≤ b
   pub below : k ≤ b → b < n → row_in g k b < 16
-
--- ---- stores
-
--- the i entries from `at` on are those of f, and those before `at` are as they were
-pub record RowWritten (at : ℕ) (f : ℕ → ℕ) (i : ℕ) (old new : List ℕ) : Type 0 where
-  pub long : length new ≡ length old
-  pub here : (p : ℕ) → p < i → get_or new (at + p) 0 ≡ f p
-  pub under : (q : ℕ) → q < at → get_or new q 0 ≡ get_or old q 0

@@ -1,80 +1,94 @@
-// The letters, and the sizes of the commands that they begin.
-ghost use Rattle.std.specs.Prelude.{◌<◌, ◌≤◌, length};
+// The commands, each a letter and its fields.
+ghost use Rattle.std.specs.Prelude.{◌<◌, ◌≤◌, length, IfSome};
 
-use lines::fields::{at, from, long, short};
+use crate::fields::Fields;
 
-// The size of a command's letter with its fields of fixed size; 0 for a letter of no command.
-fn fixed(letter: u8) -> usize
-    ensures { result < 20 }
+// A command, with what its fields say.
+#[derive(Clone, Copy)]
+pub enum Command<'a> {
+    Note(&'a [u8]),
+    Alter(u8),
+    Stand {
+        len: usize,
+        lost: u64,
+    },
+    Stripe(&'a [u8]),
+    Spare(&'a [u8]),
+    Junk(u8),
+    Encode,
+    Lose(usize),
+    Plan(usize),
+    Repair(usize),
+    Rebuild,
+    Correct {
+        block: usize,
+        offset: usize,
+        difference: &'a [u8],
+    },
+    Fetch(usize),
+    View(usize),
+    Price {
+        storage: u64,
+        reads: u64,
+    },
+    Tell,
+}
+
+// The command of this letter, its fields coming after it; none if it is damaged.
+fn after<'a>(letter: u8, fields: &mut Fields<'a>) -> Option<Command<'a>>
+    ensures { length fields.new.rest.now ≤ length fields.old.rest.now }
 {
-    match letter {
-        b'E' | b'U' | b'T' => 1,
-        b'A' | b'J' => 2,
-        b'N' | b'Q' => 3,
-        b'B' => 5,
-        b'O' | b'P' | b'R' | b'F' | b'V' => 9,
-        b'S' | b'C' => 17,
-        b'D' => 19,
-        _ => 0,
-    }
+    Some(match letter {
+        b'N' => {
+            let m = fields.short()?;
+            Command::Note(fields.bytes(m)?)
+        }
+        b'A' => Command::Alter(fields.byte()?),
+        b'S' => Command::Stand {
+            len: fields.number()?,
+            lost: fields.word()?,
+        },
+        b'B' => {
+            let m = fields.long().filter(|m| *m <= 49152)?;
+            Command::Stripe(fields.bytes(m)?)
+        }
+        b'Q' => {
+            let m = fields.short().filter(|m| *m <= 2048)?;
+            Command::Spare(fields.bytes(m)?)
+        }
+        b'J' => Command::Junk(fields.byte()?),
+        b'E' => Command::Encode,
+        b'O' => Command::Lose(fields.number()?),
+        b'P' => Command::Plan(fields.number()?),
+        b'R' => Command::Repair(fields.number()?),
+        b'U' => Command::Rebuild,
+        b'D' => {
+            let block = fields.number()?;
+            let offset = fields.number()?;
+            let m = fields.short()?;
+            Command::Correct {
+                block,
+                offset,
+                difference: fields.bytes(m)?,
+            }
+        }
+        b'F' => Command::Fetch(fields.number()?),
+        b'V' => Command::View(fields.number()?),
+        b'C' => Command::Price {
+            storage: fields.word()?,
+            reads: fields.word()?,
+        },
+        b'T' => Command::Tell,
+        _ => return None,
+    })
 }
 
-// The kinds of commands: 1 sets the layout, 2 touches no buffer and may set the standing, 3 sets the stripe, 4 the spare, 5 may change the stripe; 0 is
-// the rest, which may change the spare.
-pub fn kind(letter: u8) -> u8 {
-    match letter {
-        b'N' | b'A' => 1,
-        b'S' | b'O' | b'P' | b'C' => 2,
-        b'B' => 3,
-        b'Q' => 4,
-        b'E' | b'R' | b'U' | b'D' | b'J' => 5,
-        _ => 0,
-    }
-}
-
-// How many bytes follow the fields of fixed size.
-fn more(letter: u8, s: &[u8]) -> usize
-    ensures { result < 4294967296 }
+// The command that s starts with, and what follows it; none if it is damaged.
+pub fn first<'a>(s: &'a [u8]) -> Option<(Command<'a>, &'a [u8])>
+    ensures { IfSome result (λ r. length r.1.now < length s.now) }
 {
-    match letter {
-        b'N' | b'Q' => short(from(s, 1)),
-        b'B' => long(from(s, 1)),
-        b'D' => short(from(s, 17)),
-        _ => 0,
-    }
-}
-
-// The most bytes that may follow.
-fn most(letter: u8) -> usize {
-    match letter {
-        b'B' => 49152,
-        b'Q' => 2048,
-        _ => 65535,
-    }
-}
-
-// The sum of both parts of a command; 0 if the first is 0 or there is less room than that.
-fn both(first: usize, rest: usize, room: usize) -> usize
-    requires { (first < 20) × (rest < 4294967296) }
-    ensures { result ≤ room }
-{
-    if first == 0 {
-        return 0;
-    }
-    if room < first + rest {
-        return 0;
-    }
-    first + rest
-}
-
-// The size of the command that s starts with; 0 if it is damaged.
-pub fn size(s: &[u8]) -> usize
-    ensures { result ≤ length s.now }
-{
-    let letter = at(s, 0);
-    let rest = more(letter, s);
-    if most(letter) < rest {
-        return 0;
-    }
-    both(fixed(letter), rest, s.len())
+    let (letter, rest) = s.split_first()?;
+    let mut fields = Fields { rest };
+    let command = after(*letter, &mut fields)?;
+    Some((command, fields.rest))
 }

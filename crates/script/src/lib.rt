@@ -1,8 +1,5 @@
-// The commands of a script: where each ends, and what the calls write. docs/DRILL.md has the script, byte by byte.
+// The commands of a script: their fields, and where each ends. docs/DRILL.md has the script, byte by byte.
 #![tactic(auto)]
 
-mod answers;
-pub mod calling;
 pub mod commands;
-mod junk;
-mod sheet;
+mod fields;

@@ -1,9 +1,8 @@
 -- Proved: the coefficients that are found for a lost block are its plan, whatever the length of the blocks.
-use mathlib.Core.Path.{◌≡◌}
-use mathlib.Core.Bool.{true}
+use mathlib.Core.List.{List}
 use Prim.Native.Nat.{ℕ, ◌<◌}
 use native.Mathlib.Omega.{arith}
-use Rattle.linear.specs.declared.Answer as Linear
+use Rattle.std.specs.Prelude.{Some}
 use Rattle.linear.specs.Solved.{vec}
 use Rattle.groups.specs.declared.Layout.{Layout}
 use Rattle.given.specs.Given.{Given}
@@ -17,11 +16,11 @@ use Rattle.plan.specs.Inner.{Coefficients}
 use Rattle.plan.proofs.Codes.{code_proper}
 use Rattle.pieces.proofs.Effects.{Planned}
 
-module _ (l : Layout) (given : Given l) (L lost b : ℕ) {a : Linear.Answer} (x : Coefficients l lost b a) where
+module _ (l : Layout) (given : Given l) (L lost b : ℕ) {coef : List ℕ} (x : Coefficients l lost b (Some coef)) where
   -- coefficients that are found are a plan
-  pub planned : a.found ≡ true → Planned (code_of l L) (marked lost) b a.coef
-  planned e = record { plan = x.plan e; long = omega (arith, (given_proper l given).n, x.long); past = λ s h k. x.past s h }
+  pub planned : Planned (code_of l L) (marked lost) b coef
+  planned = record { plan = x.plan; long = omega (arith, (given_proper l given).n, x.long); past = λ s h k. x.past s h }
 
   -- and a lost block for which they are found has one
-  pub has_plan : b < blocks l → a.found ≡ true → HasPlan (code_of l L) (marked lost) b
-  has_plan below e = (has_plan_iff (code_of l L) (code_proper l given L) (marked lost) b below).1 (vec a.coef, x.plan e)
+  pub has_plan : b < blocks l → HasPlan (code_of l L) (marked lost) b
+  has_plan below = (has_plan_iff (code_of l L) (code_proper l given L) (marked lost) b below).1 (vec coef, x.plan)

@@ -1,6 +1,6 @@
--- Believed: document 01, "When the store says no", 7, and "Repairs, corrections, reading": which length a stripe lent must have, and what it is with its
--- standing.
-use Rattle.std.specs.Prelude.{◌≡◌, List, ℕ, ◌*◌}
+-- Believed: document 01, "When the store says no", 7, and "Repairs, corrections, reading": which length a stripe lent must have, what it is with its
+-- standing, and which standing a call leaves.
+use Rattle.std.specs.Prelude.{◌≡◌, List, ℕ, ◌*◌, Result, Ok, Err}
 use Rattle.groups.specs.declared.Layout.{Layout}
 use Rattle.marks.specs.Marks.{marked}
 use Rattle.rows.specs.Rows.{blocks}
@@ -16,3 +16,8 @@ pub record Sized (l : Layout) (L size : ℕ) : Type 0 where
 -- a lent stripe with its standing
 abbrev pub stripe_of : Standing → List ℕ → Stripe
 stripe_of st xs = stripe st.len (marked st.lost) xs
+
+-- the standing after a call: the one that it answers, or the one before it, since a refusal "alters nothing lent"
+abbrev pub after : {E : Type 0} → Standing → Result Standing E → Standing
+after st (Ok s) = s
+after st (Err e) = st

@@ -1,16 +1,17 @@
--- Believed: document 01, "When the store says no": what the answer of a call that changes the standing says in numbers: 0 for accepted, a refusal's
--- number, and for a rebuild's 14 the block it names.
-use Rattle.plan.specs.declared.Answer.{Answer}
-use Rattle.plan.specs.declared.Answer.TheVariants.{Done, Refused}
-use Rattle.repairs.specs.declared.Rebuilding.{Rebuilding}
-use Rattle.repairs.specs.declared.Rebuilding.TheVariants.{Whole, Denied, NoPlan}
+-- Believed: document 01, "When the store says no": what the answer of a call says in numbers: 0 for accepted, a refusal's number, and for a rebuild's 14
+-- the block it names.
+use Rattle.std.specs.Prelude.{Result, Ok, Err}
+use Rattle.plan.specs.declared.Refusal.{Refusal}
+use Rattle.plan.specs.Refusals.{number}
+use Rattle.repairs.specs.declared.Unrebuilt.{Unrebuilt}
+use Rattle.repairs.specs.declared.Unrebuilt.TheVariants.{Refused, NoPlan}
 use Rattle.store.specs.declared.Said.{Said}
 
-abbrev pub spoken : Answer → Said
-spoken Done = record { number = 0; block = 0 }
-spoken (Refused number) = record { number = number; block = 0 }
+abbrev pub spoken : {A : Type 0} → Result A Refusal → Said
+spoken (Ok x) = record { number = 0; block = 0 }
+spoken (Err e) = record { number = number e; block = 0 }
 
-abbrev pub named : Rebuilding → Said
-named Whole = record { number = 0; block = 0 }
-named (Denied number) = record { number = number; block = 0 }
-named (NoPlan b) = record { number = 14; block = b }
+abbrev pub named : {A : Type 0} → Result A Unrebuilt → Said
+named (Ok x) = record { number = 0; block = 0 }
+named (Err (Refused e)) = record { number = number e; block = 0 }
+named (Err (NoPlan b)) = record { number = 14; block = b }

@@ -1,6 +1,6 @@
 -- Believed: document 01, "Repairs, corrections, reading": what an encoding, a loss, a fetch and a view answer and leave, through the
 -- definitions of `calls` at the layout's own matrix and order. A refusal alters nothing lent.
-use Rattle.std.specs.Prelude.{◌≡◌, List, [], ◌∷◌, true, false, cond, ℕ, zero, suc, ◌+◌, ◌*◌, length, take, drop}
+use Rattle.std.specs.Prelude.{◌≡◌, List, [], ◌∷◌, true, false, cond, ℕ, zero, suc, ◌+◌, ◌*◌, length, take, drop, Result}
 use Rattle.std.specs.Borrow.{Bor}
 use Rattle.groups.specs.declared.Layout.{Layout}
 use Rattle.given.specs.Given.{Given}
@@ -8,28 +8,27 @@ use Rattle.marks.specs.Marks.{marked}
 use Rattle.calls.specs.Calls as Calls
 use Rattle.calls.specs.Calls.{◌unless◌, by, done, refused, encode, lose, fetch, Verdict, Outcome, Fetch}
 use Rattle.plan.specs.declared.Standing.{Standing}
-use Rattle.plan.specs.declared.Answer.{Answer}
+use Rattle.plan.specs.declared.Refusal.{Refusal}
 use Rattle.plan.specs.Codes.{code_of, InRange, front}
-use Rattle.plan.specs.Plans.{said}
-use Rattle.shape.specs.declared.Stood.{Stood}
-use Rattle.shape.specs.Shapes.{Sized, stripe_of}
+use Rattle.plan.specs.Refusals.{said}
+use Rattle.shape.specs.Shapes.{Sized, stripe_of, after}
 use Rattle.stripe.specs.declared.Part.{Part}
 
 -- encoding asks 6 and 7; "Encoding ignores old marks and never gives 8"
-pub record Encodes (l : Layout) (st : Standing) (xs ys : List ℕ) (r : Stood) : Type 0 where
+pub record Encodes (l : Layout) (st : Standing) (xs ys : List ℕ) (r : Result Standing Refusal) : Type 0 where
   pub outcome : Outcome ((by 6 unless Given l) ∷ (by 7 unless Sized l st.len (length xs)) ∷ []) (code_of l st.len) (stripe_of st xs) encode
-      (said r.answer) (stripe_of r.standing ys)
-  pub len : r.standing.len ≡ st.len
+      (said r) (stripe_of (after st r) ys)
+  pub len : (after st r).len ≡ st.len
   pub long : length ys ≡ length xs
 
 -- a loss asks 6, 7 (L alone) and 8, then 9 and 11; it is not lent the stripe, and changes no byte of any
-pub record Loses (l : Layout) (st : Standing) (b : ℕ) (r : Stood) : Type 0 where
+pub record Loses (l : Layout) (st : Standing) (b : ℕ) (r : Result Standing Refusal) : Type 0 where
   pub outcome : (xs : List ℕ) → Outcome (front l st (InRange st.len)) (code_of l st.len) (stripe_of st xs) (lose b)
-      (said r.answer) (stripe_of r.standing xs)
-  pub len : r.standing.len ≡ st.len
+      (said r) (stripe_of (after st r) xs)
+  pub len : (after st r).len ≡ st.len
 
 -- fetching asks 6, 7, 8, then 9, 13 and 14
-pub record Fetches (l : Layout) (st : Standing) (b : ℕ) (xs old new : List ℕ) (r : Answer) : Type 0 where
+pub record Fetches (l : Layout) (st : Standing) (b : ℕ) (xs old new : List ℕ) (r : Result (Unit {0}) Refusal) : Type 0 where
   pub fetch : Fetch (front l st (Sized l st.len (length xs))) (code_of l st.len) (stripe_of st xs) b old (said r) (stripe_of st xs) new
 
 -- r is the part of s of m bytes from position at on: what it holds, and where it stands

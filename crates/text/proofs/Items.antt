@@ -1,11 +1,12 @@
 -- Proved: the items of a plan, one after another, and how long they can be.
 use Prim.Native.Nat.{ℕ, zero, suc, ◌+◌, ◌*◌, ◌<◌, ◌≤◌}
-use mathlib.Core.Path.{◌≡◌}
+use mathlib.Core.Path.{◌≡◌, ap₂, ◌∙◌}
 use mathlib.Core.List.{List, ◌++◌}
 use native.Mathlib.Omega.{arith}
 use native.Mathlib.Numerals.{add-one}
 use native.Mathlib.Decide.{ℕ_discrete}
-use lib.ListN.{length, get_or, length-append}
+use lib.ListN.{length, get_or, take, length-take, length-append}
+use lib.Seq.{get_or-take}
 use Rattle.text.specs.Text.{item_text, items_text}
 use Rattle.text.proofs.Digits.{decimal_below, decimal_short}
 
@@ -27,6 +28,14 @@ items_room block coef i (suc m) h = at (λ k. items_room block coef i m k) (ℕ_
         → length (items_text block coef i) + length (item block coef i) ≤ length (items_text block coef m ++ item block coef m)
     at ih (yes e) = rw e (omega (arith, length-append (items_text block coef m) (item block coef m)))
     at ih (no n) = omega (arith, length-append (items_text block coef m) (item block coef m), ih (omega arith))
+
+-- a turn over the first m blocks and their coefficients
+pub item_listed : (block coef : List ℕ) (i m : ℕ) {s c : ℕ}
+    → (i < length (take m block)) × (i < length (take m coef)) × ((d : ℕ) → s ≡ get_or (take m block) i d) × ((d : ℕ) → c ≡ get_or (take m coef) i d)
+    → (i < m) × (item_text s c ≡ item block coef i)
+item_listed block coef i m t =
+    let l : i < m = omega (arith, t.0, length-take m block) in
+    (l, ap₂ item_text (t.2 0 ∙ get_or-take m block i 0 l) (t.3 0 ∙ get_or-take m coef i 0 l))
 
 item_short : (s c : ℕ) → s < 48 → length (item_text s c) ≤ 7
 item_short s c h = simp length-append (omega (arith, decimal_below s (omega arith), decimal_short c))

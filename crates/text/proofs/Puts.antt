@@ -1,13 +1,14 @@
 -- Proved: texts put one after another are one text, put.
-use Prim.Native.Nat.{ℕ, ◌+◌, ◌<◌, ◌≤◌}
-use mathlib.Core.Path.{◌≡◌, refl, ◌∙◌, ap}
-use mathlib.Core.List.{List, [], ◌∷◌, ◌++◌}
+use Prim.Native.Nat.{ℕ, ◌+◌, ◌-◌, ◌≤◌}
+use mathlib.Core.Path.{◌≡◌, refl, sym, ◌∙◌, ap}
+use mathlib.Core.List.{List, [], ◌++◌, append_assoc}
 use native.Mathlib.Omega.{arith}
-use native.Mathlib.Numerals.{add-one}
-use lib.ListN.{length, get_or, set, take, length-append}
-use lib.Seq.{length-sets, take-suc, take_all}
+use borrow.Rule.Slice.PartMut.{put_mid}
+use lib.ListN.{length, take, drop, length-append}
+use lib.Seq.{length-sets, sets-eq, drop-drop}
 use Rattle.note.proofs.Advance.{sets_append}
-use Rattle.text.specs.Put.{Put}
+use Rattle.text.specs.declared.Writer.{Writer}
+use Rattle.text.specs.Put.{Put, Writes}
 
 -- nothing is put
 pub put_nothing : (at : ℕ) (a : List ℕ) → Put [] at a a at
@@ -24,17 +25,21 @@ put_then {s} {t} {a} {b} {c} {at} p q =
       bytes = q.bytes ∙ rw (p.bytes, p.end) (sets_append a at s t);
     }
 
--- ---- a word, byte by byte
+-- a word that is copied in
+pub put_copied : (word copy : List ℕ) (at : ℕ) (a : List ℕ) → copy ≡ word → at + length word ≤ length a
+    → Put word at a (put_mid at (at + length word - at) a copy) (at + length word)
+put_copied word copy at a e h =
+    let k : at + length word - at ≡ length word = omega arith in
+    record { end = refl; bytes = rw (e, k, drop-drop (length word) at a) (sym (sets-eq word a at h ∙ append_assoc (take at a) word (drop (at + length word) a))) }
 
-pub put_none : (word : List ℕ) (at : ℕ) (a : List ℕ) → Put (take 0 word) at a a (at + 0)
-put_none word at a = record { end = refl; bytes = refl }
+-- ---- by a writer
 
-pub put_more : (word : List ℕ) (at : ℕ) (a b : List ℕ) (i : ℕ) → Put (take i word) at a b (at + i) → i < length word → at + i < length a
-    → Put (take (i + 1) word) at a (set b (at + i) (get_or word i 0)) (at + (i + 1)) × (i + 1 ≤ length word)
-put_more word at a b i p h k =
-    let one : Put (get_or word i 0 ∷ []) (at + i) b (set b (at + i) (get_or word i 0)) (at + (i + 1)) = record { end = omega arith; bytes = refl } in
-    let t : take (i + 1) word ≡ take i word ++ (get_or word i 0 ∷ []) = rw (add-one i) (take-suc word i 0 h) in
-    (rw t (put_then p one), omega arith)
+pub writes_length : {s : List ℕ} {a b : Writer} → Writes s a b → length b.out.now ≡ length a.out.now
+writes_length w = put_length w.put
 
-pub put_whole : (word : List ℕ) (at : ℕ) (a b : List ℕ) (i : ℕ) → Put (take i word) at a b (at + i) → length word ≤ i → Put word at a b (at + i)
-put_whole word at a b i p h = rw (take_all i word h) at p
+pub writes_then : {s t : List ℕ} {a b c : Writer} → Writes s a b → Writes t b c → Writes (s ++ t) a c
+writes_then v w = record { put = put_then v.put w.put; same = w.same ∙ v.same }
+
+-- where a text ends, in a buffer of the same length
+pub placed : {s : List ℕ} {a b : Writer} → Writes s a b → (b.at ≡ a.at + length s) × (length b.out.now ≡ length a.out.now)
+placed w = (w.put.end, writes_length w)

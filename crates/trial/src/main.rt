@@ -9,15 +9,14 @@
 //   V block marks  the survivors in the order in which the block's plan visits them; the bytes of the marks come lowest first
 #![tactic(auto)]
 
-ghost use Rattle.std.specs.Prelude.{◌≡◌, ◌≤◌, ◌<◌, length};
+ghost use Rattle.std.specs.Prelude.{◌<◌};
 ghost use Rattle.given.specs.Given.{Given};
 
 use groups::Layout;
-use lines::fields::{index, wide};
 use lines::figure::numerator;
-use lines::show::Output;
-use lines::{fields, notes, show, source};
-use plan::{Answer, Standing};
+use lines::show::{Items, Output, Row};
+use lines::{fields, notes, source};
+use plan::Standing;
 use price::{Limits, Price};
 use std::io;
 use std::io::Write;
@@ -26,132 +25,81 @@ use std::io::Write;
 fn digit(c: u8) -> u8
     ensures { result < 16 }
 {
-    if c < 48 {
-        return 0;
+    match c {
+        b'0'..=b'9' => c - b'0',
+        b'A'..=b'F' => c - b'A' + 10,
+        _ => 0,
     }
-    if c < 58 {
-        return c - 48;
-    }
-    if c < 65 {
-        return 0;
-    }
-    if c < 71 {
-        return c - 55;
-    }
-    0
 }
 
-fn byte(high: u8, low: u8) -> u8 {
-    digit(high) * 16 + digit(low)
-}
-
-// Puts the bytes of a line into out, as many as fit, and answers how many.
-fn parse(line: &[u8], out: &mut [u8]) -> usize
-    requires { length out.old ≡ 128 }
-    ensures { (result ≤ 128) × (length out.new ≡ 128) }
-{
-    let mut j: usize = 0;
-    let mut at: usize = 2;
-    while j < 128 {
-        if line.len() < at + 2 {
-            return j;
+// Puts the bytes of a line into out, as many as fit, and answers these.
+fn parse<'a>(line: &[u8], out: &'a mut [u8; 128]) -> &'a [u8] {
+    let digits = fields::from(line, 1).chunks_exact(3);
+    let n = digits.len().min(128);
+    for (x, pair) in out.iter_mut().zip(digits) {
+        if let [_, high, low] = pair {
+            *x = digit(*high) * 16 + digit(*low);
         }
-        out[j] = byte(line[at], line[at + 1]);
-        at += 3;
-        j += 1;
     }
-    j
+    &out[..n]
 }
 
-// Writes the row of block b, the first k bytes of it.
-fn show_row<W: Write>(to: &mut Output<W>, l: Layout, b: usize)
-    requires { Given l }
-{
-    if b > 47 {
-        return;
-    }
-    let mut matrix = [0u8; 1536];
-    rows::matrix(l, &mut matrix);
-    let from = b * 32;
-    let end = from + 32;
-    show::list(to, &matrix[from..end], l.k);
-    show::end(to);
-}
-
+// Stays: here and in the two functions below Given is asked for and is no ghost field. It holds a note and is no proposition, so that the check refuses
+// the field, and from ∥ Given l ∥₁ the Given that rows and visits ask for does not come back.
+// The first k bytes of the block's row; nothing for a number that no row has.
 fn ask_row<W: Write>(to: &mut Output<W>, l: Layout, b: u8)
     requires { Given l }
 {
-    show::count(to, b"row ", wide(b));
-    show_row(to, l, index(b));
+    to.print(format_args!("row {b}"));
+    let mut matrix = [0u8; 1536];
+    rows::matrix(l, &mut matrix);
+    if let Some(bytes) = matrix.chunks_exact(32).nth(usize::from(b)) {
+        let row = Row(bytes.get(..l.k).unwrap_or(bytes));
+        to.print(format_args!("{row}\n"));
+    }
 }
 
 fn ask_home<W: Write>(to: &mut Output<W>, l: Layout, b: u8)
     requires { Given l }
 {
-    let g = rows::home_of(l, index(b));
-    show::count(to, b"home ", wide(b));
-    show::count(to, b" group ", g as u64);
-    show::end(to);
+    let g = rows::home_of(l, usize::from(b));
+    to.print(format_args!("home {b} group {g}\n"));
 }
 
 fn ask_visits<W: Write>(to: &mut Output<W>, l: Layout, b: u8, lost: u64)
     requires { Given l }
 {
-    let v = visits::visit(l, lost, index(b));
-    let count = v.count;
+    let v = visits::visit(l, lost, usize::from(b));
     let blocks = v.blocks;
-    show::count(to, b"visits of ", wide(b));
-    show::list(to, &blocks, count);
-    show::end(to);
-}
-
-// The row, the home or the visits of a block.
-fn ask_known<W: Write>(to: &mut Output<W>, letter: u8, l: Layout, b: u8, lost: u64)
-    requires { Given l }
-{
-    match letter {
-        b'R' => ask_row(to, l, b),
-        b'H' => ask_home(to, l, b),
-        _ => ask_visits(to, l, b, lost),
-    }
-}
-
-// The questions that only a layout of a note has an answer to.
-fn ask_block<W: Write>(to: &mut Output<W>, letter: u8, l: Layout, b: u8, lost: u64) {
-    if given::known(l) {
-        ask_known(to, letter, l, b, lost);
-    }
+    let row = Row(blocks.get(..v.count).unwrap_or(&blocks));
+    to.print(format_args!("visits of {b}{row}\n"));
 }
 
 fn ask_plan<W: Write>(to: &mut Output<W>, l: Layout, b: u8, lost: u64) {
-    let st = Standing { len: 1, lost: lost };
-    let r = plan::plan_of(l, st, index(b));
-    let answer = r.answer;
-    let p = r.plan;
-    let block = p.block;
-    let coef = p.coef;
-    show::count(to, b"plan of ", wide(b));
-    match answer {
-        Answer::Done => show::items(to, &block, &coef, p.reads),
-        Answer::Refused(m) => show::count(to, b" refused ", wide(m)),
+    match plan::plan_of(l, Standing { len: 1, lost }, usize::from(b)) {
+        Ok(p) => {
+            let items = Items(&p);
+            to.print(format_args!("plan of {b}{items}\n"));
+        }
+        Err(e) => {
+            let m = e.number();
+            to.print(format_args!("plan of {b} refused {m}\n"));
+        }
     }
-    show::end(to);
 }
 
 // A limit of q quarters, an infinity or not a number.
 fn limit(q: u8) -> f64 {
-    if q == 254 {
-        return 1.0 / 0.0;
+    match q {
+        254 => f64::INFINITY,
+        255 => f64::NAN,
+        _ => f64::from(q) / 4.0,
     }
-    if q == 255 {
-        return 0.0 / 0.0;
-    }
-    (q as f64) / 4.0
 }
 
-// Words, and a figure's number of quarters.
-fn quarters<W: Write>(to: &mut Output<W>, words: &[u8], x: f64) {
-    show::count(to, words, numerator(x, 4));
+// A figure's number of quarters.
+fn quarters(x: f64) -> u32 {
+    numerator(x, 4).unwrap_or(2048)
 }
 
 fn ask_price<W: Write>(to: &mut Output<W>, l: Layout, s: u8, r: u8) {
@@ -159,17 +107,25 @@ fn ask_price<W: Write>(to: &mut Output<W>, l: Layout, s: u8, r: u8) {
         storage: limit(s),
         reads: limit(r),
     };
-    let answer = price::price_of(l, limits);
-    match answer {
-        Price::Fits { storage, reads } => {
-            quarters(to, b"fits, storage ", storage);
-            quarters(to, b" reads ", reads);
+    match price::price_of(l, limits) {
+        Ok(Price::Fits { storage, reads }) => {
+            let s = quarters(storage);
+            let r = quarters(reads);
+            to.print(format_args!("fits, storage {s} reads {r}\n"));
         }
-        Price::TooLarge(storage) => quarters(to, b"too large, storage ", storage),
-        Price::TooManyReads(reads) => quarters(to, b"too many reads, ", reads),
-        Price::Refused(m) => show::count(to, b"refused ", wide(m)),
+        Ok(Price::TooLarge(storage)) => {
+            let s = quarters(storage);
+            to.print(format_args!("too large, storage {s}\n"));
+        }
+        Ok(Price::TooManyReads(reads)) => {
+            let r = quarters(reads);
+            to.print(format_args!("too many reads, {r}\n"));
+        }
+        Err(e) => {
+            let m = e.number();
+            to.print(format_args!("refused {m}\n"));
+        }
     }
-    show::end(to);
 }
 
 // The questions that leave the layout as it is; the marks stand behind the block.
@@ -177,65 +133,45 @@ fn ask_about<W: Write>(to: &mut Output<W>, letter: u8, bytes: &[u8], l: Layout) 
     let b = fields::at(bytes, 0);
     let lost = fields::word(bytes, 1);
     match letter {
-        b'R' | b'H' | b'V' => ask_block(to, letter, l, b, lost),
         b'P' => ask_plan(to, l, b, lost),
         b'C' => ask_price(to, l, b, fields::at(bytes, 1)),
-        _ => show::text(to, b"no such question\n"),
+        // only a layout of a note has an answer to these
+        b'R' | b'H' | b'V' if !given::known(l) => {}
+        b'R' => ask_row(to, l, b),
+        b'H' => ask_home(to, l, b),
+        b'V' => ask_visits(to, l, b, lost),
+        _ => to.text(b"no such question\n"),
     }
-}
-
-// Asks with the bytes of a line, and answers the layout to go on with.
-fn ask_with<W: Write>(to: &mut Output<W>, letter: u8, bytes: &[u8], l: Layout) -> Layout {
-    if letter == b'N' {
-        return notes::read(to, bytes, l, b"accepted k ", b"refused ");
-    }
-    ask_about(to, letter, bytes, l);
-    l
 }
 
 // A line's answer, and the layout to go on with.
 fn ask<W: Write>(to: &mut Output<W>, line: &[u8], l: Layout) -> Layout {
-    let letter = fields::at(line, 0);
-    if line.len() == 0 {
-        return l;
-    }
-    if letter == b'#' {
-        show::text(to, line);
-        show::end(to);
-        return l;
-    }
-    let mut space = [0u8; 128];
-    let n = parse(line, &mut space);
-    ask_with(to, letter, &space[0..n], l)
-}
-
-// Where the line that starts at `at` ends.
-fn end_of_line(s: &[u8], at: usize) -> usize
-    requires { at ≤ length s.now }
-    ensures { (at ≤ result) × (result ≤ length s.now) }
-{
-    let mut i = at;
-    while i < s.len() {
-        if s[i] == 10 {
-            return i;
+    let mut space = [0; 128];
+    let bytes = parse(line, &mut space);
+    match line.first() {
+        None => l,
+        Some(b'#') => {
+            to.text(line);
+            to.text(b"\n");
+            l
         }
-        i += 1;
+        Some(b'N') => notes::read(to, bytes, l, b"accepted k ", b"refused "),
+        Some(letter) => {
+            ask_about(to, *letter, bytes, l);
+            l
+        }
     }
-    i
 }
 
 // Asks line after line; a last line that is not ended by a newline is asked too.
 fn each<W: Write>(to: &mut Output<W>, s: &[u8]) {
-    let r = note::read_note(&s[..0]);
-    let mut l = r.layout;
-    let mut at: usize = 0;
-    while at < s.len() {
-        let end = end_of_line(s, at);
-        l = ask(to, &s[at..end], l);
-        at = end + 1;
+    let mut l = Layout::default();
+    for line in s.chunk_by(|before, _| *before != b'\n') {
+        l = ask(to, line.strip_suffix(b"\n").unwrap_or(line), l);
     }
 }
 
+// Stays: the two programs that ask one thing after another have this main. A shared one would take `each` as a closure, and say no less.
 fn main(rt: HostRuntime) -> io::Result<()> {
     let mut buf = [0u8; 65536];
     let n = source::read_full(&mut rt.stdin(), &mut buf)?;

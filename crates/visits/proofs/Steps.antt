@@ -1,20 +1,15 @@
 -- Proved: what the functions over the groups and the steps ask holds of a given layout, and what they answer is what the layout's definitions say.
 use mathlib.Core.Path.{◌≡◌, sym, ◌∙◌, ap, ap₂}
-use mathlib.Core.List.{List}
 use mathlib.Core.Bool.{true, false, ◌&&◌}
 use Prim.Native.Nat.{ℕ, ◌+◌, ◌<◌, ◌≤◌}
 use native.Mathlib.Numerals.{add-one}
 use native.Mathlib.Omega.{arith}
-use native.Mathlib.Decide.{ℕ_discrete}
-use lib.ListN.{length, get_or, set, length-set}
-use lib.Seq.{get_or-set_same, get_or-set_other}
 use Rattle.groups.specs.Groups.{group_at}
 use Rattle.given.specs.Given.{Given}
 use Rattle.groups.specs.declared.Layout.{Layout}
 use Rattle.given.proofs.Facts.{given_proper}
 use Rattle.rows.specs.Rows.{among, home, holds}
 use Rattle.visits.specs.Visits.{meet_below, step}
-use Rattle.visits.specs.Inner.{Steps}
 use Rattle.visits.proofs.Walks.{meet_at, meet_before}
 
 -- ---- one group more
@@ -35,15 +30,3 @@ meet_no l x y g e = sym (ap (meet_below l x y) (add-one g) ∙ meet_before l x y
 pub step_is : (l : Layout) (b s x y z : ℕ) → x ≡ home l b → y ≡ home l s → z ≡ meet_below l x y l.groups → z ≡ step l b s
 unfolding step
 step_is l b s x y z p q r = r ∙ ap₂ (λ (u v : ℕ). meet_below l u v l.groups) p q
-
--- ---- one step more
-
-pub steps_none : (l : Layout) (b : ℕ) (bytes : List ℕ) → length bytes ≡ 48 → Steps l b 0 bytes
-steps_none l b bytes h = record { long = h; here = λ s k. absurd (omega arith) }
-
-pub steps_more : (l : Layout) (b s : ℕ) (bytes : List ℕ) (x : ℕ) → s < 48 → x ≡ step l b s → Steps l b s bytes → Steps l b (s + 1) (set bytes s x)
-steps_more l b s bytes x h e a = record { long = length-set bytes s x ∙ a.long; here = λ p k. here p k (ℕ_discrete p s) }
-  where
-    here : (p : ℕ) → p < s + 1 → Dec (p ≡ s) → get_or (set bytes s x) p 0 ≡ step l b p
-    here p k (yes q) = rw q (get_or-set_same bytes s x 0 (omega (arith, a.long)) ∙ e)
-    here p k (no q) = get_or-set_other bytes s p x 0 (omega arith) ∙ a.here p (omega arith)

@@ -1,15 +1,9 @@
 -- Inside: what the functions below the public one ask and answer, said of the steps and of the list that they are handed. No public contract
 -- names it.
-use Rattle.std.specs.Prelude.{Bool, not, ◌&&◌, List, [], ◌++◌, ◌≡◌, ℕ, zero, suc, ◌+◌, ◌<◌, eqb, length, get_or, set}
-use Rattle.groups.specs.declared.Layout.{Layout}
-use Rattle.visits.specs.Visits.{step, listed}
+use Rattle.std.specs.Prelude.{Bool, not, ◌&&◌, List, [], ◌++◌, ◌≡◌, ℕ, zero, suc, ◌+◌, eqb, length, set}
+use Rattle.visits.specs.Visits.{listed}
 use Rattle.visits.specs.Answers.{Listed}
 use Rattle.visits.specs.declared.Visits.{Visits}
-
--- the steps of the blocks below m
-pub record Steps (l : Layout) (b m : ℕ) (bytes : List ℕ) : Type 0 where
-  pub long : length bytes ≡ 48
-  pub here : (s : ℕ) → s < m → get_or bytes s 0 ≡ step l b s
 
 -- ---- lists by steps that are handed in
 

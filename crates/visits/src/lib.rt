@@ -1,18 +1,19 @@
 // From a layout: the order in which the plan of a lost block visits the survivors.
 #![tactic(auto)]
 
-ghost use Rattle.std.specs.Prelude.{◌≡◌, not, ◌&&◌, ◌+◌, ◌≤◌, ◌<◌, eqb, length};
+ghost use Rattle.std.specs.Prelude.{◌≡◌, not, ◌&&◌, List, [], ◌+◌, ◌≤◌, ◌<◌, eqb, length, slice_index, EachIndex};
 ghost use Rattle.linear.specs.Solved.{vec};
 ghost use Rattle.given.specs.Given.{Given};
 ghost use Rattle.marks.specs.Marks.{marked};
-ghost use Rattle.rows.specs.Rows.{blocks, among};
-ghost use Rattle.visits.specs.Visits.{meet_below, visits};
+ghost use Rattle.rows.specs.Rows.{among};
+ghost use Rattle.visits.specs.Visits.{meet_below, step, visits};
 ghost use Rattle.visits.specs.Answers.{Listed};
-ghost use Rattle.visits.specs.Inner.{Steps, chosen, gathered, pushed, Extended};
+ghost use Rattle.visits.specs.Inner.{chosen, gathered, pushed, Extended};
 
 use groups::Layout;
 
 // Blocks in the order in which they are visited: the first `count` entries. Behind them stand zeros.
+// Stays: a buffer with a count. `Listed`, which `visit` promises, speaks of both, and of the zeros behind.
 #[derive(Clone, Copy)]
 pub struct Visits {
     pub count: usize,
@@ -24,55 +25,69 @@ fn both(a: usize, m: usize, x: usize, y: usize) -> bool
     requires { a + m ≤ 64 }
     ensures { result ≡ among a m x && among a m y }
 {
-    if rows::among(a, m, x) {
-        return rows::among(a, m, y);
-    }
-    false
+    rows::among(a, m, x) && rows::among(a, m, y)
 }
 
 // The innermost group that holds both x and y.
+// Stays: here and below that l is given is a clause and no type, as in `rows`.
 fn meet(l: Layout, x: usize, y: usize) -> usize
     requires { Given l }
     ensures { result ≡ meet_below l x y l.groups }
 {
+    let groups = &l.list[..l.groups];
     let mut at: usize = 0;
-    let mut g: usize = 0;
-    while g < l.groups {
-        let z = l.list[g];
+    for (g, z) in groups.iter().enumerate() {
         if both(g, z.size, x, y) {
             at = g;
         }
-        g = g + 1;
     }
     at
 }
 
 // For each block the step at which the walk of block b comes to it.
 fn put_steps(l: Layout, b: usize, steps: &mut [u8])
-    requires given { Given l }
-    requires steps_len { length steps.old ≡ 48 }
-    ensures { Steps l b (blocks l) steps.new }
+    requires { Given l }
+    ensures { EachIndex steps.new (λ s. slice_index steps.new s ≡ step l b s) }
 {
-    let n = l.k + l.r;
     let x = rows::home_of(l, b);
-    let mut s: usize = 0;
-    while s < n {
+    for (s, e) in steps.iter_mut().enumerate() {
         let y = rows::home_of(l, s);
-        steps[s] = meet(l, x, y) as u8;
-        s = s + 1;
+        *e = meet(l, x, y) as u8;
     }
 }
 
-// One block more.
-fn push(v: Visits, s: usize) -> Visits
-    requires { (v.count < 48) × (s < 48) }
-    ensures { result ≡ pushed v s }
-{
-    let mut w = v;
-    let c = w.count;
-    w.blocks[c] = s as u8;
-    w.count = c + 1;
-    w
+impl Visits {
+    // No block yet.
+    fn none() -> Visits
+        ensures { Listed [] result }
+    {
+        Visits {
+            count: 0,
+            blocks: [0u8; 48],
+        }
+    }
+
+    // One block more.
+    fn push(&mut self, s: usize)
+        requires { (self.old.count < 48) × (s < 48) }
+        ensures { self.new ≡ pushed self.old s }
+    {
+        self.blocks[self.count] = s as u8;
+        self.count += 1;
+    }
+
+    // The survivors whose step is g, by number, behind what is there.
+    fn push_step(&mut self, lost: u64, steps: &[u8], g: usize)
+        requires steps_bound { length steps.now ≤ 48 }
+        requires room { self.old.count + length (chosen (marked lost) (vec steps.now) g (length steps.now)) ≤ 48 }
+        ensures { Extended self.old (chosen (marked lost) (vec steps.now) g (length steps.now)) self.new }
+    {
+        for (s, step) in steps.iter().enumerate() {
+            if comes(lost, s, *step, g) {
+                self.push(s);
+            }
+        }
+    }
 }
 
 // Whether s is a survivor whose step is g.
@@ -80,45 +95,18 @@ fn comes(lost: u64, s: usize, step: u8, g: usize) -> bool
     requires { s < 64 }
     ensures { result ≡ not (marked lost s) && eqb step g }
 {
-    if marks::holds(lost, s) {
-        return false;
-    }
-    step as usize == g
+    !marks::holds(lost, s) && step as usize == g
 }
 
-// The survivors below n whose step is g, by number, behind what v has.
-fn put_step(v: Visits, lost: u64, steps: &[u8], n: usize, g: usize) -> Visits
-    requires n_bound { (n ≤ 48) × (length steps.now ≡ 48) }
-    requires n_bound_2 { v.count + length (chosen (marked lost) (vec steps.now) g n) ≤ 48 }
-    ensures { Extended v (chosen (marked lost) (vec steps.now) g n) result }
+// The survivors whose step is below m, from the last step to the first.
+fn gather(lost: u64, steps: &[u8], m: usize) -> Visits
+    requires steps_bound { length steps.now ≤ 48 }
+    requires room { length (gathered (marked lost) (vec steps.now) (length steps.now) m) ≤ 48 }
+    ensures { Listed (gathered (marked lost) (vec steps.now) (length steps.now) m) result }
 {
-    let mut w = v;
-    let mut left = n;
-    while left > 0 {
-        let s = n - left;
-        if comes(lost, s, steps[s], g) {
-            w = push(w, s);
-        }
-        left = left - 1;
-    }
-    w
-}
-
-// The survivors below n whose step is below m, from the last step to the first.
-fn gather(lost: u64, steps: &[u8], n: usize, m: usize) -> Visits
-    requires n_bound { (n ≤ 48) × (length steps.now ≡ 48) }
-    requires m_len_bound { length (gathered (marked lost) (vec steps.now) n m) ≤ 48 }
-    ensures { Listed (gathered (marked lost) (vec steps.now) n m) result }
-{
-    let mut v = Visits {
-        count: 0,
-        blocks: [0u8; 48],
-    };
-    let mut left = m;
-    while left > 0 {
-        let g = left - 1;
-        v = put_step(v, lost, steps, n, g);
-        left = left - 1;
+    let mut v = Visits::none();
+    for g in (0..m).rev() {
+        v.push_step(lost, steps, g);
     }
     v
 }
@@ -128,8 +116,8 @@ pub fn visit(l: Layout, lost: u64, b: usize) -> Visits
     requires { Given l }
     ensures { Listed (visits l (marked lost) b) result }
 {
-    let n = l.k + l.r;
-    let mut steps = [0u8; 48];
-    put_steps(l, b, &mut steps);
-    gather(lost, &steps, n, l.groups)
+    let mut bytes = [0u8; 48];
+    let steps = &mut bytes[..l.k + l.r];
+    put_steps(l, b, steps);
+    gather(lost, steps, l.groups)
 }

@@ -11,7 +11,7 @@ use Rattle.field.proofs.Table.{both, both_left, both_right}
 use Rattle.marks.specs.Marks.{marked, with_mark, none_from}
 use Rattle.marks.proofs.Bits.{none_from_lem}
 use Rattle.rows.specs.Rows.{blocks}
-use Rattle.plan.specs.declared.Answer.TheVariants.{Done}
+use Rattle.std.specs.Prelude.{Ok}
 use Rattle.plan.specs.Codes.{InRange}
 use Rattle.plan.specs.Listing.{list_of}
 use Rattle.plan.specs.Plans.{Plans}
@@ -45,18 +45,16 @@ module _ (lost : List ℕ) (b : ℕ) (below : b < 7) (gone : lost_set lost b ≡
   answers : (s : Says) → Right lost b s → Plans depot (standing lost) b (answered s)
   answers (by l) x = rw depot_blocks.1 at planned
     where
-      planned : Plans depot (standing lost) b (record { answer = Done; plan = list_of (coefs l) (blocks depot) })
+      planned : Plans depot (standing lost) b (Ok (list_of (coefs l) (blocks depot)))
       planned =
           record {
             verdict = record { first = inr (depot_given, inr (in_range, inr (unmarked, inr (inside, inr (gone, inr (x.0, refl)))))) };
-            plan = λ _. record { coef = coefs l; plan = x.1; listed = refl };
-            nothing = λ m e. let z : ◌≡◌ {A = ℕ} 0 1 = cc in absurd (omega arith);
+            plan = record { coef = coefs l; plan = x.1; listed = refl };
           }
   answers nothing x =
       record {
         verdict = record { first = inr (depot_given, inr (in_range, inr (unmarked, inr (inside, inr (gone, inl (x, refl)))))) };
-        plan = λ e. let z : ◌≡◌ {A = ℕ} 0 1 = cc in absurd (omega arith);
-        nothing = λ m e. refl;
+        plan = tt;
       }
 
 each_answered : (cs : List Case) → T (all_fine cs) → Each (λ (c : Case). Right c.lost c.block c.says) cs

@@ -1,15 +1,15 @@
 -- Believed: document 01, "A depot pair worked through": the lost sets, block by block, each with the block's plan or that it has none.
-use Rattle.std.specs.Prelude.{Bool, List, [], ◌∷◌, ℕ}
+use Rattle.std.specs.Prelude.{Bool, List, [], ◌∷◌, ℕ, Result, Ok, Err}
 use Rattle.field.specs.Field.{◌⊕◌}
 use Rattle.linear.specs.Sums.{put}
 use Rattle.marks.specs.Marks.{marked, with_mark}
 use Rattle.calls.specs.Code.{Code, HasPlan, PlanOf}
 use Rattle.plan.specs.declared.Standing.{Standing}
-use Rattle.plan.specs.declared.Planned.{Planned}
-use Rattle.plan.specs.declared.Answer.TheVariants.{Done}
+use Rattle.plan.specs.declared.Plan.{Plan}
+use Rattle.plan.specs.declared.Refusal.{Refusal}
+use Rattle.plan.specs.declared.Refusal.TheVariants.{NoPlan}
 use Rattle.plan.specs.Codes.{code_of}
 use Rattle.plan.specs.Listing.{list_of}
-use Rattle.plan.specs.Plans.{refusal}
 use Rattle.worked.specs.Depot.{depot}
 
 -- ---- how a case is written
@@ -87,9 +87,9 @@ abbrev pub standing : List ℕ → Standing
 standing lost = record { len = 1; lost = marks_of lost }
 
 -- what is answered to the question for the plan: the terms, listed, or 14
-abbrev pub answered : Says → Planned
-answered (by l) = record { answer = Done; plan = list_of (coefs l) 7 }
-answered nothing = refusal 14
+abbrev pub answered : Says → Result Plan Refusal
+answered (by l) = Ok (list_of (coefs l) 7)
+answered nothing = Err NoPlan
 
 -- P holds of each of the list
 pub data Each {A : Type 0} (P : A → Type 0) : List A → Type 0 where

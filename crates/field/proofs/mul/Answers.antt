@@ -5,13 +5,15 @@ use native.Mathlib.Omega.{arith}
 use Rattle.field.specs.Field.{mul}
 use Rattle.field.proofs.Product.{mul_zero_l, mul_zero_r}
 use Rattle.field.proofs.Laws.{mul_logs}
+use Rattle.field.proofs.mul.Goals.{then-a-eq0-via-then-a-eq0, then-a-eq0-via-else-a-eq0+then-b-eq0}
 use Rattle.field.proofs.mul.Goals as goal
 
 pub returns-then-a-eq0 : goal.returns-then-a-eq0
-returns-then-a-eq0 c = sym (ap (λ (x : ℕ). mul x c.args.b) c.if-a-eq0.true ∙ mul_zero_l c.args.b)
-
-pub returns-then-b-eq0 : goal.returns-then-b-eq0
-returns-then-b-eq0 c = sym (ap (mul c.args.a) c.if-b-eq0.true ∙ mul_zero_r c.args.a)
+returns-then-a-eq0 c =
+    elim c.then-a-eq0.branch [
+      | then-a-eq0-via-then-a-eq0 w ↦ sym (ap (λ (x : ℕ). mul x c.args.b) w.if-a-eq0.true ∙ mul_zero_l c.args.b)
+      | then-a-eq0-via-else-a-eq0+then-b-eq0 w ↦ sym (ap (mul c.args.a) w.if-b-eq0.true ∙ mul_zero_r c.args.a)
+    ]
 
 pub returns : goal.returns
 returns c =

@@ -1,23 +1,16 @@
 -- Proved: `scaled_add` meets its contract. The invariant: the first i positions are done, the others as they were.
 use mathlib.Core.Path.{ap₂}
 use native.Mathlib.Omega.{arith}
-use borrow.Author.Rules.{rules}
 use Rattle.field.specs.Field.{◌⊕◌}
-use Rattle.field.proofs.Upto.{upto_none, upto_more}
+use Rattle.field.proofs.Upto.{upto_more}
 use Rattle.field.proofs.Scaled.{scaled_upto}
 use Rattle.field.proofs.scaled_add.Goals as goal
-
-pub loop-i-init : goal.loop-i-init
-loop-i-init c = (search rules, upto_none _ _)
 
 pub loop-i-preserved : goal.loop-i-preserved
 unfolding ◌⊕◌
 loop-i-preserved c =
     let turn = c.loop-i in
-    (omega arith, upto_more _ (omega arith) (ap₂ ◌⊕◌ (turn.invariant.1.rest turn.i (omega arith)) c.mul-p.ensures) turn.invariant.1)
-
-pub shape_of-dst : goal.shape_of-dst
-shape_of-dst c = c.loop-i.invariant.1.len
+    upto_more _ (omega arith) (ap₂ ◌⊕◌ (turn.invariant.rest turn.i (omega arith)) c.mul.ensures) turn.invariant
 
 pub returns : goal.returns
-returns c = scaled_upto _ _ _ _ c.loop-i.i (omega arith) (omega arith) c.loop-i.invariant.1
+returns c = scaled_upto _ _ _ _ c.loop-i.i (omega arith) (omega arith) c.loop-i.invariant

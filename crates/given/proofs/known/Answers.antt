@@ -1,10 +1,8 @@
 -- Proved: `known` meets its contract: a layout is given exactly if its own note, which stands at the front of the buffer, gives it.
-use Prim.Native.Nat.{◌≤◌}
-use mathlib.Core.Path.{◌∙◌, sym, ap}
+use mathlib.Core.Path.{refl}
 use native.Mathlib.Omega.{arith}
-use lib.ListN.{length, replicate}
-use Rattle.given.specs.Given.{layout_note}
-use Rattle.given.proofs.Put.{front_is}
+use lib.ListN.{replicate}
+use Rattle.given.proofs.Put.{note_put}
 use Rattle.given.proofs.RoundTrip.{given_few, given_told}
 use Rattle.given.proofs.known.Goals as goal
 
@@ -12,17 +10,6 @@ pub returns-then-l-gt16 : goal.returns-then-l-gt16
 returns-then-l-gt16 c =
     λ g. let few = given_few _ g in omega arith
 
-pub slice_bounds-gives-end : goal.slice_bounds-gives-end
-slice_bounds-gives-end c =
-    let put = c.put_note-n.ensures in
-    let note = layout_note c.args.l in
-    let short : length note ≤ 96 = omega (arith, put) in
-    put.1 ∙ ap length (sym (front_is (replicate 96 0) _ note _ short put.0 put.1))
-
 pub returns : goal.returns
 returns c =
-    let put = c.put_note-n.ensures in
-    let l = c.args.l in
-    let short : length (layout_note l) ≤ 96 = omega (arith, put) in
-    let front = front_is (replicate 96 0) _ (layout_note l) _ short put.0 put.1 in
-    given_told l c.gives.result (rw front at c.gives.ensures)
+    given_told c.args.l c.gives.result (rw (note_put (replicate 96 0) _ c.args.l _ refl c.put_headers-n.ensures) at c.gives.ensures)

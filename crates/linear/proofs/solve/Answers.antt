@@ -1,20 +1,15 @@
 -- Proved: `solve` meets its contract: the survivors are taken in, the target is reduced, and what is left of it decides.
-use mathlib.Core.Path.{refl}
-use native.Mathlib.Omega.{arith}
-use Rattle.linear.proofs.Vectors.{zeros_at}
+use mathlib.Core.Path.{sym, ◌∙◌}
 use Rattle.linear.proofs.Answers.{unsolved, solved}
 use Rattle.linear.proofs.solve.Goals as goal
 
-pub eliminate-count-requires : goal.eliminate-count-requires
-eliminate-count-requires c = record { survivors = c.requires.survivors; v_len = refl; shape = record { flat = refl; cols = refl; most = omega arith; low = λ p l. absurd (omega arith); fresh = λ k l. zeros_at 2560 k } }
-
-pub returns-then-left-lt32 : goal.returns-then-left-lt32
-returns-then-left-lt32 c =
-    unsolved (λ k. (c.shared_slice_known-1.given k).fits) (λ k. (c.shared_slice_known-3-1.given k).fits) c.eliminate-count.ensures
-    c.fill.ensures c.reduce.ensures c.first-left.ensures _ refl (zeros_at 48) c.if-left-lt32.true
+pub returns-then-is_some : goal.returns-then-is_some
+returns-then-is_some c =
+    unsolved (λ k. (c.type_inv.rows k).fits) (λ k. (c.type_inv.target k).fits) c.of_survivors-basis.ensures
+    c.vector-v.ensures c.reduce.ensures c.first.result (sym c.is_some.ensures ∙ c.if-is_some.true) c.first.ensures.found
 
 pub returns : goal.returns
 returns c =
-    rw c.scaled_add.ensures
-    (solved (λ k. (c.shared_slice_known-1.given k).fits) (λ k. (c.shared_slice_known-3-1.given k).fits) c.eliminate-count.ensures
-    c.fill.ensures c.reduce.ensures c.first-left.ensures _ refl (zeros_at 48) c.if-left-lt32.false)
+    rw c.copy_from_slice.ensures.after
+    (solved (λ k. (c.type_inv.rows k).fits) (λ k. (c.type_inv.target k).fits) c.of_survivors-basis.ensures
+    c.vector-v.ensures c.reduce.ensures c.first.result (sym c.is_some.ensures ∙ c.if-is_some.false) c.first.ensures.found)

@@ -1,10 +1,9 @@
--- Proved: `gather` meets its contract: zeros are copied in, and the blocks added to them.
-use native.Mathlib.Omega.{arith}
-use lib.ListN.{replicate}
-use Rattle.linear.proofs.Vectors.{zeros_at}
+-- Proved: `gather` meets its contract: the blocks are added to zeros.
+use borrow.Author.Rules.{rules}
+use Rattle.std.proofs.lemmas.List.{places}
 use Rattle.pieces.proofs.Combining.{gathered}
 use Rattle.pieces.proofs.gather.Goals as goal
 
 pub returns : goal.returns
 returns c =
-    gathered (replicate 1024 0) (zeros_at 1024) _ (omega arith) c.copy.ensures c.combine.ensures
+    gathered _ (search rules) (search (rules, places)) c.combine.ensures

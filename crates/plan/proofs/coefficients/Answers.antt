@@ -16,4 +16,4 @@ solve_row-requires c =
 pub returns : goal.returns
 returns c =
     coefficients_are c.args.l c.requires.given c.args.lost c.args.b c.requires.b_bound _ _ _ _ c.matrix.ensures.rows
-    c.visit-v.ensures.count (λ p h. listed_at _ _ c.visit-v.ensures p) (λ i h. row_part _ c.args.b i h) c.solve_row.ensures
+    c.visit-v.ensures.count (λ p h. listed_at _ _ c.visit-v.ensures p) (λ i h. row_part _ c.args.b i h) _ c.solve_row.ensures

@@ -1,10 +1,9 @@
 -- Proved: `put_row` meets its contract. The invariant: the first i entries of the row are written.
-use Prim.Native.Nat.{◌≤◌, ◌-◌}
-use Rattle.rows.specs.Inner.{entry_in, RowWritten}
+use mathlib.Core.Path.{◌≡◌}
+use Prim.Native.Nat.{ℕ, ◌<◌}
+use lib.ListN.{get_or}
+use Rattle.rows.specs.Rows.{row}
 use Rattle.rows.proofs.put_row.Given as goal
 
 abbrev pub invariant-loop-i : goal.invariant-loop-i
-invariant-loop-i l = (l.i ≤ 32) × RowWritten l.at (entry_in l.g l.k l.n l.b) l.i l.initial.rows l.rows
-
-abbrev pub decreases-loop-i : goal.decreases-loop-i
-decreases-loop-i l = 32 - l.i
+invariant-loop-i l = (p : ℕ) → p < l.i → get_or l.entries p 0 ≡ row l.fn.l l.b p

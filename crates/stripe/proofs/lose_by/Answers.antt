@@ -6,18 +6,16 @@ use Rattle.plan.proofs.Fronts.{front_given}
 use Rattle.stripe.proofs.Answers.{loses_done}
 use Rattle.stripe.proofs.lose_by.Goals as goal
 
-pub overflow_add-n : goal.overflow_add-n
-overflow_add-n c = omega (arith, (given_proper c.args.l (front_given c.front-f.ensures c.if-f-ne0.false)).n)
+pub overflow_add-l : goal.overflow_add-l
+overflow_add-l c = omega (arith, (given_proper c.args.l (front_given c.in_ok-front.ensures)).n)
 
 pub holds-requires : goal.holds-requires
-holds-requires c = omega (arith, (given_proper c.args.l (front_given c.front-f.ensures c.if-f-ne0.false)).n, c.if-n-b.false)
+holds-requires c = omega (arith, (given_proper c.args.l (front_given c.in_ok-front.ensures)).n)
 
-pub with-m-requires : goal.with-m-requires
-with-m-requires c =
-    omega (arith, (given_proper c.args.l (front_given c.front-f.ensures c.if-f-ne0.false)).n, c.if-n-b.false)
+pub with-lost-requires : goal.with-lost-requires
+with-lost-requires c = omega (arith, (given_proper c.args.l (front_given c.in_ok-front.ensures)).n)
 
 pub returns : goal.returns
 returns c =
-    rw c.with-m.ensures
-    (loses_done c.args.l c.args.st c.args.b c.front-f.ensures c.if-f-ne0.false
-    c.if-n-b.false (sym c.holds.ensures ∙ c.if-holds.false))
+    rw c.with-lost.ensures
+    (loses_done c.args.l c.args.st c.args.b c.in_ok-front.ensures c.if-l-b.false (sym c.holds.ensures ∙ c.if-holds.false))

@@ -1,10 +1,9 @@
 -- Proved: `put_steps` meets its contract. The invariant: the steps of the blocks below s are written.
-use Prim.Native.Nat.{◌-◌, ◌≤◌}
-use Rattle.visits.specs.Inner.{Steps}
+use mathlib.Core.Path.{◌≡◌}
+use Prim.Native.Nat.{ℕ, ◌<◌}
+use lib.ListN.{get_or}
+use Rattle.visits.specs.Visits.{step}
 use Rattle.visits.proofs.put_steps.Given as goal
 
 abbrev pub invariant-loop-s : goal.invariant-loop-s
-invariant-loop-s l = (l.s ≤ l.n) × Steps l.l l.b l.s l.steps
-
-abbrev pub decreases-loop-s : goal.decreases-loop-s
-decreases-loop-s l = l.n - l.s
+invariant-loop-s l = (p : ℕ) → p < l.s → get_or l.steps p 0 ≡ step l.l l.b p

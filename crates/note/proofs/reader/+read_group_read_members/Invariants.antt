@@ -4,7 +4,7 @@ use Rattle.std.proofs.Common.{◌+◌, ◌*◌, ◌-◌}
 use Rattle.note.proofs.reader.+read_group_read_members.Given as goal
 
 abbrev pub decreases-read_group : goal.decreases-read_group
-decreases-read_group l = 2 * (l.end - l.w.at)
+decreases-read_group l = 2 * (l.around.end - l.w.at)
 
 abbrev pub decreases-read_members : goal.decreases-read_members
-decreases-read_members l = 2 * (l.end - l.w.at) + 1
+decreases-read_members l = 2 * (l.around.end - l.w.at) + 1

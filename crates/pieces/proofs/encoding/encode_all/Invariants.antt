@@ -1,10 +1,6 @@
 -- Proved: `encode_all` meets its contract. The invariant: the redundant blocks below b are made, the data bytes are as they were.
-use Prim.Native.Nat.{◌≤◌, ◌-◌}
 use Rattle.pieces.specs.Pieces.{EncodedList}
 use Rattle.pieces.proofs.encoding.encode_all.Given as goal
 
 abbrev pub invariant-loop-b : goal.invariant-loop-b
-invariant-loop-b l = (l.k ≤ l.b) × (l.b ≤ l.n) × EncodedList l.rows l.len l.k l.b l.initial.stripe l.stripe
-
-abbrev pub decreases-loop-b : goal.decreases-loop-b
-decreases-loop-b l = l.n - l.b
+invariant-loop-b l = EncodedList l.rows l.len l.k l.b l.initial.stripe l.stripe

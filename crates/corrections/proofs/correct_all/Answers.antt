@@ -1,8 +1,0 @@
--- Proved: `correct_all` meets its contract: the difference goes into its data block, then its multiples into the redundant blocks.
-use Rattle.corrections.proofs.Laying.{corrected_list}
-use Rattle.corrections.proofs.correct_all.Goals as goal
-
-pub returns : goal.returns
-returns c =
-    corrected_list c.requires.number c.requires.stays (λ j. (c.type_inv.diff j).fits) c.lay.ensures
-    c.spread.ensures

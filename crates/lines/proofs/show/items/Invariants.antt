@@ -1,9 +1,0 @@
--- Proved: `items` is safe and ends: the place is below 32.
-use Prim.Native.Nat.{◌≤◌, ◌-◌}
-use Rattle.lines.proofs.show.items.Given as goal
-
-abbrev pub invariant-loop-i : goal.invariant-loop-i
-invariant-loop-i g l = l.i ≤ 32
-
-abbrev pub decreases-loop-i : goal.decreases-loop-i
-decreases-loop-i g l = 32 - l.i

@@ -1,7 +1,0 @@
--- Proved: `put_layout` meets its contract.
-use Rattle.text.proofs.Puts.{put_then}
-use Rattle.text.proofs.put_layout.Goals as goal
-
-pub returns : goal.returns
-returns c =
-    put_then (put_then c.put_numbered-a.ensures c.put_decimal-b.ensures) c.put.ensures
