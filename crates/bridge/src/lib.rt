@@ -12,7 +12,7 @@ use price::{Limits, Price};
 use store::Said;
 use stripe::Part;
 
-// Stays: here and in the two structs below a number tells the case, since the C interface has them so (include/store.h).
+// Stays: here, in the two structs below and in what store_correct and store_fetch answer a number tells the case, since the C interface has them so (include/store.h).
 
 // What reading a note says: 0 and the layout; or the refusal's number, the offset of the record at fault, and the blank layout.
 #[repr(C)]

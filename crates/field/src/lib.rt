@@ -8,6 +8,7 @@ ghost use Rattle.std.specs.Prelude.{◌≡◌, ◌<◌, length};
 ghost use Rattle.field.specs.Field.{mul, inv, coef};
 ghost use Rattle.field.specs.Scaled.{scaled_add};
 
+// Stays: a byte is made a usize by `as`, here and in linear. With usize::from, tried, each proof has a call more to go through, and the code says no more.
 pub fn mul(a: u8, b: u8) -> u8
     ensures { result ≡ mul a b }
 {

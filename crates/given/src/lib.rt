@@ -9,6 +9,7 @@ ghost use Rattle.given.specs.Inner.{IsNote};
 use groups::Layout;
 
 // Whether a note gives a layout.
+// Stays: a match. is_ok_and was tried, and what its closure claims stays open.
 fn gives(note: &[u8], l: Layout) -> bool
     ensures { Tells result (IsNote l note.now) }
 {

@@ -5,6 +5,7 @@ ghost use Rattle.given.specs.Given.{head_bytes, headers};
 
 use groups::Group;
 
+// Stays: a buffer and a place, of two functions. A struct would be built for one call.
 // Writes the header of a group at a place, and returns the next place.
 fn put_head(buf: &mut [u8; 96], at: usize, g: &Group) -> usize
     requires { at + 6 ≤ 96 }

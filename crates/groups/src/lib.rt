@@ -56,6 +56,7 @@ pub enum Fault {
 
 impl Fault {
     // Document 01's number of the refusal.
+    // Stays: a match. As numbers of the variants they would stand in the enum and be cast here, which is no plainer.
     pub fn number(self) -> u8
         ensures { result ≡ number self }
     {

@@ -34,7 +34,7 @@ struct Slot {
 }
 
 // The survivors that are taken in, in the slots below count. Each slot is zero at the pivots of those before it.
-// Stays: an array with its count. `Shape` and `Taken` speak of both; the toolchain's ArrayVec would answer a Result at each push, which never fails here.
+// Stays: an array with its count. The calls stand on `std` alone (README.md), and ArrayVec is of another library of the toolchain.
 #[derive(Drop)]
 struct Basis {
     slots: [Slot; 32],
@@ -99,6 +99,7 @@ impl Basis {
     }
 
     // All m survivors, taken in in their order.
+    // Stays: j is the place in the order, of which `Taken` says how many are taken in.
     fn of_survivors(rows: &[u8], order: &[u8], m: usize) -> Basis
         requires { Survivors rows.now order.now m }
         ensures { Taken rows.now order.now result.slots result.count m }

@@ -3,6 +3,7 @@ use std::fmt;
 use std::fmt::{Display, Formatter};
 
 // The number of these 64 bits. Where its exponent is all ones and its fraction is not 0 it is a not-a-number.
+// Stays: told by the bits, since `from_bits` asks that they are none of these.
 pub fn limit(bits: u64) -> f64 {
     if bits % 0x8000_0000_0000_0000 <= 0x7ff0_0000_0000_0000 {
         f64::from_bits(bits)

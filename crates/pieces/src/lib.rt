@@ -8,6 +8,7 @@ ghost use Rattle.pieces.specs.Pieces.{Sources, Combined, Makeable, Gathered, Mad
 
 // Adds coefficient times block for every block, at the positions from `from` on. The start makes room for blocks that come in pieces.
 // A block whose coefficient is zero is passed over, so that a lost block's bytes are never read.
+// Stays: blocks by number. chunks_exact asks a length that is not 0, and this takes 0 too.
 // Stays: stripe, coef and len are no struct of three, here and in `gather`: `make` writes the stripe that the struct would hold lent.
 pub fn combine(acc: &mut [u8], stripe: &[u8], coef: &[u8], len: usize, from: usize)
     requires sources { Sources stripe.now coef.now len }

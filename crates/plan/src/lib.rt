@@ -61,6 +61,7 @@ pub struct Plan {
 
 impl Plan {
     // No block is listed; the plan that the C interface gives beside a refusal.
+    // Stays: each field. A derived Default was tried: that it is `blank` stays open without an answer, and three edits hang on the fields.
     pub fn none() -> Plan
         ensures { result ≡ blank }
     {
@@ -136,7 +137,7 @@ pub fn front(l: Layout, st: Standing) -> Result<(), Refusal>
 }
 
 // The plan of block b, the lowest refusal that applies being given first.
-// Stays: 9, 10 and 14 are asked here as in a repair, since each call asks its own needs in its own order (`needs` of calls), two lines to a need.
+// Stays: 9, 10 and 14 are asked here as in a repair, seven lines twice. A function for them would need a promise and edits of its own, and say no less.
 pub fn plan_of(l: Layout, st: Standing, b: usize) -> Result<Plan, Refusal>
     ensures { Plans l st b result }
 {

@@ -31,7 +31,9 @@ fn owned(g: Group, k: usize, b: usize) -> bool
 }
 
 // The home of block b.
-// Stays: here and below that l is given is a clause and no type. `Given` holds a note and is no proposition, so that no type can have it as an invariant.
+// Stays: here and below that l is given is a clause and no type. These functions take a Layout (docs/PROMISES.md), and `Given` itself, which holds a note,
+// was tried as a ghost field: the check wants a proposition there.
+// Stays: a for. rposition was tried: that its closure may be called, which asks `Fit` of each group, stays open.
 pub fn home_of(l: Layout, b: usize) -> usize
     requires { Given l }
     ensures { result ≡ home l b }

@@ -63,7 +63,7 @@ impl Writer<'_> {
     }
 
     // A refusal, of a note or of a call.
-    // Stays: its number, since two enums come here, Fault and Refusal.
+    // Stays: its number. Two enums come here, Fault and Refusal, from one caller: a trait for the two would say less in more lines.
     pub fn put_refused(&mut self, number: u8)
         requires { HasRoom (refused_text number) self.old }
         ensures { Writes (refused_text number) self.old self.new }
@@ -93,7 +93,7 @@ impl Writer<'_> {
     }
 
     // The first `reads` blocks of a plan.
-    // Stays: two lists and a count, since that is how `plan::Plan` holds a plan.
+    // Stays: two lists and a count (docs/PROMISES.md). A `plan::Plan` would ask for lists of 32, and for plan below text.
     pub fn put_items(&mut self, block: &[u8], coef: &[u8], reads: usize)
         requires reads_in_bounds { (reads ≤ length block.now) × (reads ≤ length coef.now) }
         requires room { HasRoom (items_text block.now coef.now reads) self.old }

@@ -22,6 +22,7 @@ use std::io;
 use std::io::Write;
 
 // The value of a hex digit in capitals; of anything else 0.
+// Stays: by hand, since `to_digit` takes small letters too.
 fn digit(c: u8) -> u8
     ensures { result < 16 }
 {

@@ -29,7 +29,7 @@ fn both(a: usize, m: usize, x: usize, y: usize) -> bool
 }
 
 // The innermost group that holds both x and y.
-// Stays: here and below that l is given is a clause and no type, as in `rows`.
+// Stays: here and below that l is given is a clause and no type, and this a for, as in `rows`.
 fn meet(l: Layout, x: usize, y: usize) -> usize
     requires { Given l }
     ensures { result ≡ meet_below l x y l.groups }
@@ -95,7 +95,7 @@ fn comes(lost: u64, s: usize, step: u8, g: usize) -> bool
     requires { s < 64 }
     ensures { result ≡ not (marked lost s) && eqb step g }
 {
-    !marks::holds(lost, s) && step as usize == g
+    !marks::holds(lost, s) && usize::from(step) == g
 }
 
 // The survivors whose step is below m, from the last step to the first.
