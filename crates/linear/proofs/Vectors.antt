@@ -153,9 +153,21 @@ slots_zero zero p i = refl
 slots_zero (suc n) zero i = zeros_at 80 i
 slots_zero (suc n) (suc p) i = slots_zero n p i
 
+pivots_zero : (n p : ℕ) → pivot (replicate n (record { vector = replicate 80 0; pivot = 0 })) p ≡ 0
+pivots_zero zero p = refl
+pivots_zero (suc n) zero = refl
+pivots_zero (suc n) (suc p) = pivots_zero n p
+
 pub shape_none : Shape (replicate 32 (record { vector = replicate 80 0; pivot = 0 })) 0
 shape_none =
-    record { long = refl; most = omega arith; low = λ p l. absurd (omega arith); byte = λ p i. omega (arith, slots_zero 32 p i) }
+    record {
+      long = refl;
+      most = omega arith;
+      low = λ p l. absurd (omega arith);
+      byte = λ p i. omega (arith, slots_zero 32 p i);
+      fresh = λ p i l. slots_zero 32 p i;
+      fresh_col = λ p l. pivots_zero 32 p;
+    }
 
 -- ---- `reduce`
 
@@ -230,6 +242,8 @@ module _ {v r : List ℕ} {slots : List Slot} {count : ℕ} (x : Reduced v slots
             most = omega arith;
             low = λ p h. low p h (ℕ_discrete p count);
             byte = λ p j. byte p j (ℕ_discrete p count);
+            fresh = λ p j h. ap (λ (y : Slot). get_or y.vector j 0) (there p (omega arith)) ∙ s.fresh p j (omega arith);
+            fresh_col = λ p h. ap (λ (y : Slot). y.pivot) (there p (omega arith)) ∙ s.fresh_col p (omega arith);
           };
           either = inr (record {
             count_more = refl;

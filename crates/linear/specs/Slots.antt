@@ -30,12 +30,14 @@ pub record Leading (v : List ℕ) (i : ℕ) : Type 0 where
   pub none : (k : ℕ) → k < i → get_or v k 0 ≡ 0
   pub some : 0 < get_or v i 0
 
--- 32 slots, of which count are in use
+-- 32 slots, of which count are in use and the others zeros, vector and pivot
 pub record Shape (slots : List Slot) (count : ℕ) : Type 0 where
   pub long : length slots ≡ 32
   pub most : count ≤ 32
   pub low : (p : ℕ) → p < count → pivot slots p < 32
   pub byte : (p i : ℕ) → slot slots p i < 256
+  pub fresh : (p i : ℕ) → count ≤ p → slot slots p i ≡ 0
+  pub fresh_col : (p : ℕ) → count ≤ p → pivot slots p ≡ 0
 
 -- what `reduce` leaves of v
 pub record Reduced (v : List ℕ) (slots : List Slot) (count : ℕ) (r : List ℕ) : Type 0 where

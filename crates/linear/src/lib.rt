@@ -33,7 +33,7 @@ struct Slot {
     pivot: u8,
 }
 
-// The survivors that are taken in, in the slots below count. Each slot is zero at the pivots of those before it.
+// The survivors that are taken in, in the slots below count; the others hold zeros. Each slot is zero at the pivots of those before it.
 // Stays: an array with its count. The calls stand on `std` alone (README.md), and ArrayVec is of another library of the toolchain.
 #[derive(Drop)]
 struct Basis {
