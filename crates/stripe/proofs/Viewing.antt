@@ -1,11 +1,11 @@
 -- Proved: which facts make which part of a view in numbers, that it lies inside its slice, and that a slice cut there is the part of a view.
-use mathlib.Core.Path.{◌≡◌, refl, subst}
+use mathlib.Core.Path.{◌≡◌, refl, ap, ◌∙◌, subst}
 use mathlib.Core.Bool.{Bool, true, false}
 use mathlib.Core.List.{List}
-use Prim.Native.Nat.{ℕ, zero, suc, ◌+◌, ◌*◌, ◌<◌, ◌≤◌}
+use Prim.Native.Nat.{ℕ, zero, suc, ◌+◌, ◌-◌, ◌*◌, ◌<◌, ◌≤◌}
 use native.Mathlib.Omega.{arith}
 use denote.Ref.{Bor}
-use lib.ListN.{length}
+use lib.ListN.{length, take, drop}
 use Rattle.groups.specs.declared.Layout.{Layout}
 use Rattle.marks.specs.Marks.{marked}
 use Rattle.rows.specs.Rows.{blocks}
@@ -21,6 +21,12 @@ use Rattle.stripe.proofs.Fetching.{FetchIs, fetch_sized}
 
 -- ---- parts
 
+-- a part from a to a + m
+pub middle_part : (s r : Bor (List ℕ)) (a m : ℕ) → r.now ≡ take (a + m - a) (drop a s.now) → r.ref_ptr ≡ (s.ref_ptr.0, a + s.ref_ptr.1) → PartOf s a m r
+middle_part s r a m holds place =
+    let cut : a + m - a ≡ m = omega arith in
+    record { holds = holds ∙ ap (λ (n : ℕ). take n (drop a s.now)) cut; place = place }
+
 -- a block of the stripe lies inside it
 pub inside : (l : Layout) (L b size : ℕ) → Sized l L size → b < blocks l → b * L + L ≤ size
 inside l L b size s below = omega (arith, s.whole, under L b (blocks l) below)
@@ -29,9 +35,18 @@ pub slice_spare : {A : Type 0} (x y : A) (n : ℕ) → (n ≡ 0 → ⊥) → sli
 slice_spare x y zero h = absurd (h refl)
 slice_spare x y (suc n) h = refl
 
+-- what is less than m of both is less than m of the one that is named
+pub slice_less : {x y m : ℕ} → x < m → y < m → (n : ℕ) → slice_of x y n < m
+slice_less h k zero = h
+slice_less h k (suc n) = k
+
 -- ---- the part in numbers
 
 module _ (l : Layout) (st : Standing) (size room b : ℕ) where
+  -- the part of a block that is not lost is in the stripe
+  pub placed_present : FetchIs l st b size room done → marked st.lost b ≡ false → Placed l st size room b (record { slice = 0; from = b * st.len; len = st.len })
+  placed_present v e = record { answer = done; verdict = v; part = rw e refl }
+
   abbrev Fits : Part → Type 0
   Fits p = p.from + p.len ≤ slice_of size room p.slice
 
