@@ -20,7 +20,7 @@ use Rattle.plan.specs.Refusals.{number}
 use Rattle.plan.proofs.Fronts.{first_front}
 use Rattle.shape.specs.Front.{ShapeSays}
 
--- which facts make which answer of it
+-- which facts make which answer
 module _ {l : Layout} {P : Type 0} where
   pub shape_6 : (Given l → ⊥) → ShapeSays l P (Err Why.Layout)
   shape_6 n = record { first = inl (n, refl) }

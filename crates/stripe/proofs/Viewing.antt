@@ -44,8 +44,9 @@ slice_less h k (suc n) = k
 
 module _ (l : Layout) (st : Standing) (size room b : ℕ) where
   -- the part of a block that is not lost is in the stripe
-  pub placed_present : FetchIs l st b size room done → marked st.lost b ≡ false → Placed l st size room b (record { slice = 0; from = b * st.len; len = st.len })
-  placed_present v e = record { answer = done; verdict = v; part = rw e refl }
+  module _ (v : FetchIs l st b size room done) where
+    pub placed_present : marked st.lost b ≡ false → Placed l st size room b (record { slice = 0; from = b * st.len; len = st.len })
+    placed_present e = record { answer = done; verdict = v; part = rw e refl }
 
   abbrev Fits : Part → Type 0
   Fits p = p.from + p.len ≤ slice_of size room p.slice
