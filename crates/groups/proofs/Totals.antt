@@ -4,12 +4,13 @@ use mathlib.Core.Path.{◌≡◌, refl, sym, ◌∙◌, ap}
 use native.Mathlib.Omega.{arith}
 use lib.ListN.{set}
 use Rattle.groups.specs.declared.Layout.{Layout}
+use Rattle.groups.specs.declared.State.{State}
 use Rattle.groups.specs.declared.Fault.{Fault}
 use Rattle.groups.specs.declared.Fault.TheVariants.{End, Kind, Body, Extra, Bounds}
 use Rattle.std.specs.Prelude.{Result, Err, MatchResult}
 use Rattle.std.specs.Result.{IsErrAnd}
 use Rattle.std.proofs.lemmas.Result.{err_from_is_err_and, MatchResult-weaker}
-use Rattle.groups.specs.Groups.{State, number, if_lt, group_at, bound_passed, refused_at, grown, entered, closed}
+use Rattle.groups.specs.Groups.{number, if_lt, group_at, bound_passed, refused_at, grown, entered, closed}
 use Rattle.groups.proofs.Picks.{lt_no, eq_yes, eq_no, by_lt, by_eq}
 
 -- the running totals allow one group more

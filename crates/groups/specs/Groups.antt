@@ -1,5 +1,6 @@
 -- Believed: document 01, "The layout note": how blocks and rows are numbered, and the bounds on the running totals, with refusal 5 of "When the
--- store says no". A layout is the groups entered so far; the reader holds one, with its place in the note and the fault that it found.
+-- store says no". A layout is the groups entered so far. A walk holds one, with its place in the note, until a fault stops it; a state says how far it
+-- came, and the number of the fault.
 use Rattle.std.specs.Prelude.{ℕ, ◌+◌, ◌-◌, cond, get_or, set, replicate, ltb, eqb, Result, Ok, Err}
 use Rattle.groups.specs.declared.Group.{Group}
 use Rattle.groups.specs.declared.Layout.{Layout}
@@ -7,6 +8,7 @@ use Rattle.groups.specs.declared.Fault.{Fault}
 use Rattle.groups.specs.declared.Fault.TheVariants.{End, Kind, Body, Extra, Bounds}
 use Rattle.groups.specs.declared.Walk.{Walk}
 use Rattle.groups.specs.declared.Stopped.{Stopped}
+use Rattle.groups.specs.declared.State.{State}
 
 -- ---- tests
 
@@ -28,7 +30,7 @@ no_group = record { h = 0; d = 0; len = 0; row = 0; first = 0; redundant = 0; si
 abbrev pub group_at : Layout → ℕ → Group
 group_at l x = get_or l.list x no_group
 
--- the layout of which nothing is read yet, and that of a refused note
+-- the layout of which nothing is read yet, and that which is told with the refusal of a note
 abbrev pub blank : Layout
 blank = record { groups = 0; list = replicate 16 no_group; k = 0; r = 0 }
 
@@ -62,12 +64,6 @@ with_group rows h d len l =
     }
 
 -- ---- the reader's state
-
--- the layout so far, the place in the note, and the fault found (0: none), whose offset is then the place
-pub record State : Type 0 where
-  pub lay : Layout
-  pub at : ℕ
-  pub fault : ℕ
 
 -- document 01's numbers of the refusals of a note
 abbrev pub number : Fault → ℕ

@@ -85,6 +85,14 @@ pub struct Stopped {
     pub walk: Walk,
 }
 
+// A walk in numbers, going on or stopped: the layout so far, the place in the note, and the fault, any number (0: none), whose offset is then the place.
+#[derive(Clone, Copy)]
+pub struct State {
+    pub lay: Layout,
+    pub at: usize,
+    pub fault: u8,
+}
+
 // What a group stands in: where that ends, the nesting of its members, and the rows of the groups round them.
 #[derive(Clone, Copy)]
 pub struct Around {
@@ -118,6 +126,17 @@ fn check(lay: Layout, level: usize, rows: usize, h: u8, d: u8) -> Result<(), Fau
     bounded(n, 48)
 }
 
+// The walk with a fault: any number, and the offset of the record at fault.
+pub fn refuse(w: Walk, number: u8, offset: usize) -> State
+    ensures { result ≡ refused_at number offset (walking w) }
+{
+    State {
+        lay: w.lay,
+        at: offset,
+        fault: number,
+    }
+}
+
 impl Walk {
     // The reader before the first record.
     pub fn start() -> Walk
@@ -133,11 +152,12 @@ impl Walk {
     pub fn stop(self, fault: Fault, offset: usize) -> Stopped
         ensures { stopped result ≡ refused_at (number fault) offset (walking self) }
     {
+        let state = refuse(self, fault.number(), offset);
         Stopped {
             fault,
             walk: Walk {
-                lay: self.lay,
-                at: offset,
+                lay: state.lay,
+                at: state.at,
             },
         }
     }
