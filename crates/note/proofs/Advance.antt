@@ -9,7 +9,8 @@ use native.Mathlib.Numerals.{add-one}
 use lib.ListN.{length, get_or, set, length-append}
 use lib.Seq.{sets, get_or-set_same, get_or-set_other, set-set, set_comm}
 use Rattle.groups.specs.declared.Group.{Group}
-use Rattle.groups.specs.Groups.{State, no_group, grown, ended, closed}
+use Rattle.groups.specs.declared.State.{State}
+use Rattle.groups.specs.Groups.{no_group, grown, ended, closed}
 use Rattle.note.specs.Tree.{Tree, Members, over, branch_length, note_of, notes_in, datas, datas_in, redundants, redundants_in, size, size_in, groups_of, groups_in}
 use Rattle.note.specs.Tree.Tree.{leaf, branch}
 use Rattle.note.specs.Tree.Members.{pair, more}

@@ -10,7 +10,8 @@ use native.Mathlib.Numerals.{add-one}
 use lib.Dec.{eqb}
 use borrow.Author.Tests.{eqb-true, eqb-false, eq-eqb, ne_eqb}
 use Rattle.note.specs.Note.Head.{Bad, Leaf, Branch}
-use Rattle.groups.specs.Groups.{State, if_eq, refused_at, entered, closed}
+use Rattle.groups.specs.declared.State.{State}
+use Rattle.groups.specs.Groups.{if_eq, refused_at, entered, closed}
 use Rattle.note.specs.Note.{Head, head_at, by_head, go_on, next, group_of, members_of, group_read, members_read}
 use Rattle.groups.specs.Inner.{Sound}
 use Rattle.groups.proofs.Picks.{lt_yes, lt_no, eq_yes, eq_no, by_lt, by_eq}

@@ -3,7 +3,8 @@ use Prim.Native.Nat.{ℕ, ◌+◌, ◌*◌, ◌≤◌, ◌<◌}
 use native.Mathlib.Omega.{arith}
 use lib.ListN.{length, length-append}
 use Rattle.groups.specs.declared.Layout.{Layout}
-use Rattle.groups.specs.Groups.{State, grown, at_start}
+use Rattle.groups.specs.declared.State.{State}
+use Rattle.groups.specs.Groups.{grown, at_start}
 use Rattle.note.specs.Tree.{Tree, Members, over, note_of, notes_in, datas, datas_in, redundants, redundants_in, size, size_in, nesting, nesting_in, rows, rows_in, fewest, fewest_in, Within}
 use Rattle.note.specs.Tree.Tree.{leaf, branch}
 use Rattle.note.specs.Tree.Members.{pair, more}

@@ -7,7 +7,8 @@ use native.Mathlib.Nat.{add-zero}
 use lib.ListN.{length, drop, get_or, length-append, length-drop, length-set}
 use lib.Seq.{get_or-drop, drop-drop, length-sets}
 use Rattle.note.specs.Note.Head.{Leaf, Branch}
-use Rattle.groups.specs.Groups.{State, grown, closed}
+use Rattle.groups.specs.declared.State.{State}
+use Rattle.groups.specs.Groups.{grown, closed}
 use Rattle.note.specs.Note.{Bytes}
 use Rattle.note.specs.Tree.{Tree, Members, over, branch_length, note_of, notes_in, groups_of}
 use Rattle.note.specs.Tree.Tree.{leaf, branch}

@@ -7,7 +7,8 @@ use native.Mathlib.Nat.{add-zero}
 use lib.ListN.{length, drop, get_or, length-append, length-set}
 use lib.Seq.{get_or-drop, drop-drop, drop-append_seam, length-sets}
 use Rattle.note.specs.Note.Head.{Leaf, Branch}
-use Rattle.groups.specs.Groups.{State, entered, grown, closed}
+use Rattle.groups.specs.declared.State.{State}
+use Rattle.groups.specs.Groups.{entered, grown, closed}
 use Rattle.note.specs.Note.{head_at, record_at, leaf_at, branch_at, next, group_read, members_read}
 use Rattle.note.specs.Tree.{Tree, Members, over, leaf_record, branch_length, branch_record, note_of, notes_in, size, size_in, groups_of}
 use Rattle.note.specs.Tree.Tree.{leaf, branch}

@@ -6,7 +6,8 @@ use mathlib.Core.List.{List}
 use native.Mathlib.Omega.{arith}
 use native.Mathlib.Decide.{dec_lt, ℕ_discrete}
 use Rattle.note.specs.Note.Head.{Bad, Leaf, Branch}
-use Rattle.groups.specs.Groups.{State, entered, grown, closed}
+use Rattle.groups.specs.declared.State.{State}
+use Rattle.groups.specs.Groups.{entered, grown, closed}
 use Rattle.note.specs.Note.{Head, head_at, group_read, members_read}
 use Rattle.groups.proofs.Totals.{Room, room}
 use Rattle.note.proofs.Heads.{Says, says}

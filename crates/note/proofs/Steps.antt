@@ -7,7 +7,8 @@ use lib.ListN.{length}
 use Rattle.note.specs.Note.Head.{Branch}
 use Rattle.groups.specs.declared.Walk.{Walk}
 use Rattle.groups.specs.declared.Stopped.{Stopped}
-use Rattle.groups.specs.Groups.{State, number, walking, stopped, entered, at_start}
+use Rattle.groups.specs.declared.State.{State}
+use Rattle.groups.specs.Groups.{number, walking, stopped, entered, at_start}
 use Rattle.note.specs.Note.{head_at, next, group_read, members_read, finish, read_note}
 use Rattle.note.specs.Note.Outcome.{layout, refusal}
 use Rattle.groups.specs.Inner.{Sound}

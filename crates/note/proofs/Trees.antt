@@ -9,7 +9,8 @@ use lib.Seq.{sets, sets-eq}
 use Rattle.std.proofs.lemmas.List.{drop-replicate}
 use Rattle.groups.specs.declared.Group.{Group}
 use Rattle.groups.specs.declared.Layout.{Layout}
-use Rattle.groups.specs.Groups.{State, no_group, at_start}
+use Rattle.groups.specs.declared.State.{State}
+use Rattle.groups.specs.Groups.{no_group, at_start}
 use Rattle.note.specs.Note.{Bytes, group_read, Outcome, finish, read_note}
 use Rattle.note.specs.Note.Outcome.{layout, refusal}
 use Rattle.note.specs.Tree.{Tree, note_of, datas, redundants, size, groups_of, layout_of, Within}

@@ -7,10 +7,12 @@
 use Rattle.std.specs.Prelude.{ℕ, zero, suc, ◌+◌, ◌-◌, ◌*◌, ◌<◌, List, Bool, true, false, length, get_or, eqb, Result, Ok, Err}
 use Rattle.groups.specs.declared.Layout.{Layout}
 use Rattle.groups.specs.declared.Fault.{Fault}
-use Rattle.groups.specs.Groups.{State, number, if_lt, if_eq, at_start, refused_at, entered, closed}
+use Rattle.groups.specs.declared.State.{State}
+use Rattle.groups.specs.Groups.{number, if_lt, if_eq, blank, at_start, refused_at, entered, closed}
 use Rattle.note.specs.declared.reader.Record.{Record}
 use Rattle.note.specs.declared.reader.Record.TheVariants as Found
 use Rattle.note.specs.declared.Refused.{Refused}
+use Rattle.note.specs.declared.Reading.{Reading}
 
 -- ---- one record
 
@@ -142,3 +144,8 @@ read_note s = finish (length s) (group_read s (length s) 1 0 at_start)
 abbrev pub outcome : Result Layout Refused → Outcome
 outcome (Ok l) = layout l
 outcome (Err e) = refusal (number e.fault) e.offset
+
+-- the reading of each outcome in numbers: 0 with the layout, or document 01's number and offset, with the blank layout
+abbrev pub reading : Outcome → Reading
+reading (layout l) = record { number = 0; offset = 0; layout = l }
+reading (refusal number offset) = record { number = number; offset = offset; layout = blank }

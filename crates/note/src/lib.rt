@@ -5,7 +5,8 @@ pub mod reader;
 
 ghost use Rattle.std.specs.Prelude.{◌≡◌};
 ghost use Rattle.groups.specs.Groups.{walked};
-ghost use Rattle.note.specs.Note.{finish, read_note, outcome};
+ghost use Rattle.note.specs.Note.{finish, read_note, outcome, reading};
+ghost use Rattle.note.specs.Note.Outcome.{refusal};
 
 use groups::{Around, Fault, Layout, Stopped, Walk};
 
@@ -14,6 +15,27 @@ use groups::{Around, Fault, Layout, Stopped, Walk};
 pub struct Refused {
     pub fault: Fault,
     pub offset: usize,
+}
+
+// What reading a note says in numbers: 0 and the layout; or the refusal's number, the offset of the record at fault, and the blank layout.
+#[derive(Clone, Copy)]
+pub struct Reading {
+    pub number: u8,
+    pub offset: usize,
+    pub layout: Layout,
+}
+
+impl Reading {
+    // A refusal, by any number: the layout is then the blank one.
+    pub fn refused(number: u8, offset: usize) -> Reading
+        ensures { result ≡ reading (refusal number offset) }
+    {
+        Reading {
+            number,
+            offset,
+            layout: groups::empty(),
+        }
+    }
 }
 
 impl From<Stopped> for Refused {

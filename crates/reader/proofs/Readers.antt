@@ -5,7 +5,8 @@ use mathlib.Core.List.{List}
 use native.Mathlib.Omega.{arith}
 use lib.ListN.{length}
 use Rattle.groups.specs.declared.Layout.{Layout}
-use Rattle.groups.specs.Groups.{State, blank, at_start}
+use Rattle.groups.specs.declared.State.{State}
+use Rattle.groups.specs.Groups.{blank, at_start}
 use Rattle.note.specs.Note.{group_read}
 use Rattle.groups.proofs.Picks.{lt_no}
 use Rattle.reader.specs.Reader.{group_from}

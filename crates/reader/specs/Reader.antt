@@ -2,7 +2,8 @@
 -- the group at its place, any place, and is moved behind it.
 use Rattle.std.specs.Prelude.{ℕ, List, length}
 use Rattle.std.specs.Borrow.{Bor}
-use Rattle.groups.specs.Groups.{State, if_lt, blank, refused_at}
+use Rattle.groups.specs.declared.State.{State}
+use Rattle.groups.specs.Groups.{if_lt, blank, refused_at}
 use Rattle.note.specs.Note.{group_read}
 use Rattle.reader.specs.declared.Reader.{Reader}
 
