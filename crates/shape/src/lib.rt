@@ -1,12 +1,30 @@
-// What every call on a stripe asks first.
+// What every call on a stripe asks first, and what a refusal gives back.
 #![tactic(auto)]
 
+ghost use Rattle.std.specs.Prelude.{◌≡◌};
 ghost use Rattle.plan.specs.Front.{FrontSays};
-ghost use Rattle.shape.specs.Front.{ShapeSays};
+ghost use Rattle.shape.specs.Front.{refusal, ShapeSays};
 ghost use Rattle.shape.specs.Shapes.{Sized};
 
 use groups::Layout;
 use plan::{Refusal, Standing};
+
+// The standing after a call, and the call's answer: accepted, or refused by any number.
+#[derive(Clone, Copy)]
+pub struct Stood {
+    pub standing: Standing,
+    pub answer: Result<(), u8>,
+}
+
+// A refusal, by any number, leaves the standing as it was.
+pub fn refuse(st: Standing, number: u8) -> Stood
+    ensures { result ≡ refusal st number }
+{
+    Stood {
+        standing: st,
+        answer: Err(number),
+    }
+}
 
 // 6 or 7 where it applies, in this order. `size` is the length of the stripe.
 pub fn shape(l: Layout, len: usize, size: usize) -> Result<(), Refusal>
