@@ -1,12 +1,12 @@
 -- Proved: how long what is printed of a lost block can be, and that the lines of the blocks go on from one block to the next.
 use Prim.Native.Nat.{ℕ, ◌+◌, ◌*◌, ◌<◌, ◌≤◌}
-use mathlib.Core.Path.{◌≡◌, sym, subst}
+use mathlib.Core.Path.{◌≡◌, sym, ap, subst}
 use mathlib.Core.Bool.{true, false}
 use mathlib.Core.List.{List, [], ◌++◌, append-nil}
 use native.Mathlib.Omega.{arith}
 use native.Mathlib.Numerals.{add-one}
 use lib.ListN.{length, get_or, length-append}
-use Rattle.std.specs.Prelude.{Result, Ok, Err, IfOk}
+use Rattle.std.specs.Prelude.{Result, Ok, Err, IfOk, IsErrAnd, MatchResult}
 use Rattle.linear.specs.Sets.{tally}
 use Rattle.linear.proofs.Existence.{plan_few}
 use Rattle.groups.specs.declared.Layout.{Layout}
@@ -27,7 +27,7 @@ use Rattle.plan.specs.Refusals.{number}
 use Rattle.plan.proofs.Codes.{code_proper}
 use Rattle.plan.proofs.Listings.{Listed, list_of_listed, entry_below}
 use Rattle.loss.specs.Line.{plan_text, line_of}
-use Rattle.losses.specs.Lines.{Lines, none, present, lost}
+use Rattle.losses.specs.Lines.{numbered, Lines, none, present, lost}
 use Rattle.text.specs.Put.{Put}
 use Rattle.losses.specs.Inner.{Written, Goes}
 use Rattle.text.proofs.Items.{items_short}
@@ -70,15 +70,21 @@ module _ (l : Layout) (st : Standing) (b : ℕ) where
       list : Listed y.coef (blocks l) p
       list = subst (λ (p : Plan). Listed y.coef (blocks l) p) (sym y.listed) (list_of_listed y.coef (blocks l) few)
 
-pub reads_short : (r : Result Plan Refusal) → IfOk r Short → IfOk r (λ p. p.reads ≤ 32)
+pub reads_short : (r : Result Plan Refusal) → IfOk r Short → IfOk (numbered r) (λ p. p.reads ≤ 32)
 reads_short (Ok p) s = s.reads
 reads_short (Err e) s = tt
 
-text_short : (r : Result Plan Refusal) → IfOk r Short → length (plan_text r) ≤ 224
+-- what `map_err` makes of it
+pub numbered_is : (r : Result Plan Refusal) (s : Result Plan ℕ) → MatchResult r (λ p. s ≡ Ok p) (λ e. IsErrAnd s (λ n. n ≡ number e)) → s ≡ numbered r
+numbered_is (Ok p) s h = h
+numbered_is (Err e) (Ok p) h = absurd h
+numbered_is (Err e) (Err n) h = ap Err h
+
+text_short : (r : Result Plan Refusal) → IfOk r Short → length (plan_text (numbered r)) ≤ 224
 text_short (Ok p) s = omega (arith, s.reads, items_short p.block p.coef p.reads s.blocks)
 text_short (Err e) s = omega (arith, decimal_short (number e))
 
-pub line_short : (b : ℕ) (r : Result Plan Refusal) → b < 48 → IfOk r Short → length (line_of b r) ≤ 232
+pub line_short : (b : ℕ) (r : Result Plan Refusal) → b < 48 → IfOk r Short → length (line_of b (numbered r)) ≤ 232
 line_short b r h s =
     simp length-append (omega (arith, decimal_below b (omega arith), text_short r s))
 
@@ -90,9 +96,9 @@ module _ (l : Layout) (st : Standing) where
       record { text = []; holds = λ f x. rw (append-nil f) (present x e); short = omega arith; put = put_nothing at a }
 
   pub goes_lost : (b : ℕ) {at e : ℕ} {a c : List ℕ} {r : Result Plan Refusal} → b < 48 → marked st.lost b ≡ true → Plans l st b r
-      → Put (line_of b r) at a c e → Written (Goes l st b) 232 at a c e
+      → Put (line_of b (numbered r)) at a c e → Written (Goes l st b) 232 at a c e
   goes_lost b {r = r} h o x p =
-      record { text = line_of b r; holds = λ f y. lost y o x; short = line_short b r h (plan_short l st b r x); put = p }
+      record { text = line_of b (numbered r); holds = λ f y. lost y o x; short = line_short b r h (plan_short l st b r x); put = p }
 
   pub lines_none : (at : ℕ) (a : List ℕ) → Written (Lines l st 0) 0 at a a at
   lines_none at a = record { text = []; holds = none; short = omega arith; put = put_nothing at a }

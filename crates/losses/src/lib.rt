@@ -6,7 +6,7 @@ ghost use Rattle.losses.specs.Lines.{Lines};
 ghost use Rattle.losses.specs.Inner.{WrittenBy, Goes};
 
 use groups::Layout;
-use plan::Standing;
+use plan::{Refusal, Standing};
 use text::Writer;
 
 // The line of block b, if it is lost.
@@ -18,7 +18,7 @@ fn put_block(w: &mut Writer<'_>, l: Layout, st: Standing, b: usize)
         return;
     }
     let r = plan::plan_of(l, st, b);
-    loss::put_line(w, b, r);
+    loss::put_line(w, b, r.map_err(Refusal::number));
 }
 
 // The lines of the lost blocks below n.

@@ -15,7 +15,7 @@ use Rattle.plan.proofs.Verdicts.{plans_unique}
 use Rattle.text.specs.Text.{layout_text}
 use Rattle.input.specs.Input.{note_size, standing_in}
 use Rattle.loss.specs.Line.{line_of}
-use Rattle.losses.specs.Lines.{Lines, none, present, lost}
+use Rattle.losses.specs.Lines.{numbered, Lines, none, present, lost}
 use Rattle.report.specs.Report.{Listed, lines, Asks, met, unmet, Read, Says, Printed, Report}
 
 lines_unique : (l : Layout) (st : Standing) {b : ℕ} {s t : List ℕ} → Lines l st b s → Lines l st b t → s ≡ t
@@ -23,7 +23,8 @@ lines_unique l st none none = refl
 lines_unique l st (present x e) (present y f) = lines_unique l st x y
 lines_unique l st (present x e) (lost y f p) = in_and_out f e
 lines_unique l st (lost x e p) (present y f) = in_and_out e f
-lines_unique l st (lost {b} x e p) (lost y f q) = ap₂ (λ (u v : List ℕ). u ++ v) (lines_unique l st x y) (ap (line_of b) (plans_unique l st b p q))
+lines_unique l st (lost {b} x e p) (lost y f q) =
+    ap₂ (λ (u v : List ℕ). u ++ v) (lines_unique l st x y) (ap (λ r. line_of b (numbered r)) (plans_unique l st b p q))
 
 listed_unique : (l : Layout) (st : Standing) {s t : List ℕ} → Listed l st s → Listed l st t → s ≡ t
 listed_unique l st (lines x) (lines y) = ap (λ (u : List ℕ). layout_text l.k (blocks l) ++ u) (lines_unique l st x y)

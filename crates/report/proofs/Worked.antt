@@ -22,7 +22,7 @@ use Rattle.worked.proofs.Answers.{in_range, cases_answered}
 use Rattle.text.specs.Text.{decimal, items_text, layout_text}
 use Rattle.input.specs.Input.{little, Whole}
 use Rattle.loss.specs.Line.{line_of}
-use Rattle.losses.specs.Lines.{Lines, none, present, lost}
+use Rattle.losses.specs.Lines.{numbered, Lines, none, present, lost}
 use Rattle.report.specs.Report.{Listed, lines, met, Follows, Says}
 use Rattle.report.specs.Worked.{sample_rest, sample_input, sample_text}
 
@@ -41,11 +41,14 @@ last zero e = e
 last (suc n) end = end
 last (suc n) (also x e) = last n e
 
+-- the line of a lost block, from what is said of it
+abbrev line : ℕ → WorkedPlans.Says → List ℕ
+line b says = line_of b (numbered (answered says))
+
 -- the lines of the lost blocks
 abbrev four : List ℕ
 four =
-    [] ++ line_of 0 (answered nothing) ++ line_of 1 (answered nothing) ++ line_of 5 (answered nothing)
-    ++ line_of 6 (answered (WorkedPlans.by (29 times 2 ∷ 161 times 3 ∷ [])))
+    [] ++ line 0 nothing ++ line 1 nothing ++ line 5 nothing ++ line 6 (WorkedPlans.by (29 times 2 ∷ 161 times 3 ∷ []))
 
 sample_lines : Each (λ (c : Case). Plans depot (standing c.lost) c.block (answered c.says)) (drop 12 cases) → Lines depot st 7 four
 unfolding marks_of with_mark marked ◌⊕◌
