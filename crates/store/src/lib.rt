@@ -5,7 +5,7 @@
 ghost use Rattle.std.specs.Prelude.{◌≡◌};
 ghost use Rattle.plan.specs.declared.Refusal.TheVariants.{NoPlan};
 ghost use Rattle.repairs.specs.declared.Unrebuilt.TheVariants as Why;
-ghost use Rattle.store.specs.Answers.{spoken, named};
+ghost use Rattle.store.specs.Answers.{told, spoken, named};
 ghost use Rattle.store.specs.Store.{Read, Encode, Lose, Plan, Repair, Rebuild, Correct, Fetch, View, Price};
 
 use groups::Layout;
@@ -23,21 +23,25 @@ pub struct Said {
     pub block: usize,
 }
 
+// An answer in numbers: 0 where the call is accepted, otherwise the number that it is refused by, any number.
+pub fn say(answer: Result<(), u8>) -> Said
+    ensures { result ≡ told answer }
+{
+    match answer {
+        Ok(()) => Said {
+            number: 0,
+            block: 0,
+        },
+        Err(number) => Said { number, block: 0 },
+    }
+}
+
 // An answer in numbers.
 impl From<Result<(), Refusal>> for Said {
     ghost from_gives = { λ r s. s ≡ spoken r };
 
     fn from(r: Result<(), Refusal>) -> Said {
-        match r {
-            Ok(()) => Said {
-                number: 0,
-                block: 0,
-            },
-            Err(e) => Said {
-                number: e.number(),
-                block: 0,
-            },
-        }
+        say(r.map_err(Refusal::number))
     }
 }
 
