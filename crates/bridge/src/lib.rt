@@ -6,7 +6,7 @@ ghost use Rattle.store.specs.Store.{Encode, Lose, Repair, Rebuild};
 ghost use Rattle.std.specs.Prelude.{◌≡◌};
 
 use groups::Layout;
-use note::Refused;
+use note::{Reading, Refused};
 use plan::{Plan, Refusal, Standing};
 use price::{Limits, Price};
 use store::Said;
@@ -52,11 +52,14 @@ impl From<Result<Layout, Refused>> for NoteSaid {
                 offset: 0,
                 layout,
             },
-            Err(e) => NoteSaid {
-                number: e.fault.number(),
-                offset: e.offset,
-                layout: groups::empty(),
-            },
+            Err(e) => {
+                let said = Reading::refused(e.fault.number(), e.offset);
+                NoteSaid {
+                    number: said.number,
+                    offset: said.offset,
+                    layout: said.layout,
+                }
+            }
         }
     }
 }
