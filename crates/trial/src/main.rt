@@ -145,10 +145,19 @@ fn ask_about<W: Write>(to: &mut Output<W>, letter: u8, bytes: &[u8], l: Layout) 
     }
 }
 
-// A line's answer, and the layout to go on with.
-fn ask<W: Write>(to: &mut Output<W>, line: &[u8], l: Layout) -> Layout {
+// Asks with the bytes of a line, and answers the layout to go on with.
+fn ask_with<W: Write>(to: &mut Output<W>, letter: u8, line: &[u8], l: Layout) -> Layout {
     let mut space = [0; 128];
     let bytes = parse(line, &mut space);
+    if letter == b'N' {
+        return notes::read(to, bytes, l, b"accepted k ", b"refused ");
+    }
+    ask_about(to, letter, bytes, l);
+    l
+}
+
+// A line's answer, and the layout to go on with.
+fn ask<W: Write>(to: &mut Output<W>, line: &[u8], l: Layout) -> Layout {
     match line.first() {
         None => l,
         Some(b'#') => {
@@ -156,11 +165,7 @@ fn ask<W: Write>(to: &mut Output<W>, line: &[u8], l: Layout) -> Layout {
             to.text(b"\n");
             l
         }
-        Some(b'N') => notes::read(to, bytes, l, b"accepted k ", b"refused "),
-        Some(letter) => {
-            ask_about(to, *letter, bytes, l);
-            l
-        }
+        Some(letter) => ask_with(to, *letter, line, l),
     }
 }
 
