@@ -1,5 +1,6 @@
 // The commands, each a letter and its fields.
 ghost use Rattle.std.specs.Prelude.{◌<◌, ◌≤◌, length, IfSome};
+ghost use Rattle.script.specs.Ends.{IsEnd};
 
 use crate::fields::Fields;
 
@@ -36,7 +37,8 @@ pub enum Command<'a> {
 
 // The command of this letter, its fields coming after it; none if it is damaged.
 fn after<'a>(letter: u8, fields: &mut Fields<'a>) -> Option<Command<'a>>
-    ensures { length fields.new.rest.now ≤ length fields.old.rest.now }
+    ensures shorter { length fields.new.rest.now ≤ length fields.old.rest.now }
+    ensures end { IsEnd fields.new.rest.now fields.old.rest.now }
 {
     Some(match letter {
         b'N' => {
@@ -85,7 +87,8 @@ fn after<'a>(letter: u8, fields: &mut Fields<'a>) -> Option<Command<'a>>
 
 // The command that s starts with, and what follows it; none if it is damaged.
 pub fn first<'a>(s: &'a [u8]) -> Option<(Command<'a>, &'a [u8])>
-    ensures { IfSome result (λ r. length r.1.now < length s.now) }
+    ensures shorter { IfSome result (λ r. length r.1.now < length s.now) }
+    ensures end { IfSome result (λ r. IsEnd r.1.now s.now) }
 {
     let (letter, rest) = s.split_first()?;
     let mut fields = Fields { rest };
