@@ -9,7 +9,7 @@
 //   V block marks  the survivors in the order in which the block's plan visits them; the bytes of the marks come lowest first
 #![tactic(auto)]
 
-ghost use Rattle.std.specs.Prelude.{◌<◌};
+ghost use Rattle.std.specs.Prelude.{◌<◌, ◌≤◌, length};
 ghost use Rattle.given.specs.Given.{Given};
 
 use groups::Layout;
@@ -34,7 +34,9 @@ fn digit(c: u8) -> u8
 }
 
 // Puts the bytes of a line into out, as many as fit, and answers these.
-fn parse<'a>(line: &[u8], out: &'a mut [u8; 128]) -> &'a [u8] {
+fn parse<'a>(line: &[u8], out: &'a mut [u8; 128]) -> &'a [u8]
+    ensures { length result.now ≤ 128 }
+{
     let digits = fields::from(line, 1).chunks_exact(3);
     let n = digits.len().min(128);
     for (x, pair) in out.iter_mut().zip(digits) {
