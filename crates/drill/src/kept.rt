@@ -26,7 +26,7 @@ impl Display for Kept {
     fn fmt<W: fmt::Write>(&self, f: &mut Formatter<W>) -> fmt::Result {
         let held = Held(self);
         let spare = Bytes(self.spare.as_slice());
-        write!(f, "{held} {spare}")
+        write!(f, "{held}{spare}")
     }
 }
 
@@ -39,7 +39,7 @@ impl Display for Held<'_> {
         let kept = self.0;
         let Standing { len, lost } = kept.standing;
         let stripe = Bytes(kept.stripe.as_slice());
-        write!(f, "{len} {lost} {stripe}")
+        write!(f, "{len} {lost}{stripe}")
     }
 }
 
@@ -114,10 +114,8 @@ impl Kept {
                 let m = e.number();
                 to.print(format_args!("rebuild {m} {held}\n"));
             }
-            Err(Unrebuilt::NoPlan(b)) => {
-                let m = Refusal::NoPlan.number();
-                to.print(format_args!("rebuild {m}@{b} {held}\n"));
-            }
+            // the number of `NoPlan`, written with the words
+            Err(Unrebuilt::NoPlan(b)) => to.print(format_args!("rebuild 14@{b} {held}\n")),
         }
     }
 
@@ -153,7 +151,7 @@ impl Kept {
             self.spare.as_slice(),
             b,
         ));
-        to.print(format_args!("view {b} {part} {self}\n"));
+        to.print(format_args!("view {b}{part} {self}\n"));
     }
 
     // The price, its figures as fractions over k.
@@ -202,17 +200,17 @@ impl Kept {
             Command::Stripe(bytes) => {
                 lay(&mut self.stripe, bytes);
                 let stripe = Bytes(self.stripe.as_slice());
-                to.print(format_args!("stripe {stripe}\n"));
+                to.print(format_args!("stripe{stripe}\n"));
             }
             Command::Spare(bytes) => {
                 lay(&mut self.spare, bytes);
                 let spare = Bytes(self.spare.as_slice());
-                to.print(format_args!("spare {spare}\n"));
+                to.print(format_args!("spare{spare}\n"));
             }
             Command::Junk(x) => {
                 junk::spoil(self.stripe.as_mut_slice(), self.standing, x);
                 let stripe = Bytes(self.stripe.as_slice());
-                to.print(format_args!("junk {stripe}\n"));
+                to.print(format_args!("junk{stripe}\n"));
             }
             Command::Encode => self.encode(to),
             Command::Lose(b) => self.lose(to, b),

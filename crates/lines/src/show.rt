@@ -1,12 +1,11 @@
 // What is written: words, numbers and bytes.
-ghost use Rattle.std.specs.Prelude.{Some};
+ghost use Rattle.std.specs.Prelude.{◌<◌, ◌≤◌, length, Some};
 ghost use Rattle.lines.specs.Shown.{Shown};
 
-use arrayvec::ArrayString;
 use plan::Plan;
-use std::fmt::{Display, Formatter, Write as _};
+use std::fmt::{Display, Formatter};
 use std::io::Write;
-use std::{fmt, io};
+use std::{fmt, io, str};
 
 // Where answers are written. The first write that fails is kept, and nothing is written behind it.
 // Stays: what was written is kept beside the writer. With a Result and `?` in each function, those that cannot fail could.
@@ -86,7 +85,27 @@ fn checksum(bytes: &[u8]) -> u64 {
     c
 }
 
-// Bytes, or what stands for them: two digits for each byte, `-` for none, and a checksum for more than 64.
+// The hexadecimal digit of x modulo 16, in small letters.
+fn digit(x: u8) -> u8
+    ensures { result < 128 }
+{
+    let d = x % 16;
+    if d < 10 { b'0' + d } else { b'a' - 10 + d }
+}
+
+// A space, and two digits for each byte.
+fn digits<'a>(bytes: &[u8], out: &'a mut [u8; 129]) -> &'a str
+    requires { length bytes.now ≤ 64 }
+{
+    *out = [b' '; 129];
+    for (i, b) in bytes.iter().enumerate() {
+        out[2 * i + 1] = digit(*b / 16);
+        out[2 * i + 2] = digit(*b);
+    }
+    str::from_utf8(&out[..2 * bytes.len() + 1]).unwrap()
+}
+
+// Bytes behind a space, or what stands for them: two digits for each byte, `-` for none, and a checksum for more than 64.
 #[derive(Clone, Copy)]
 pub struct Bytes<'a>(pub &'a [u8]);
 
@@ -94,17 +113,14 @@ impl Display for Bytes<'_> {
     fn fmt<W: fmt::Write>(&self, f: &mut Formatter<W>) -> fmt::Result {
         let bytes = self.0;
         match bytes.len() {
-            0 => write!(f, "-"),
+            0 => f.write_str(" -"),
             1..=64 => {
-                let mut digits = ArrayString::<128>::new();
-                for b in bytes {
-                    write!(digits, "{b:02x}")?;
-                }
-                f.write_str(digits.as_str())
+                let mut out = [0; 129];
+                f.write_str(digits(bytes, &mut out))
             }
             _ => {
                 let c = checksum(bytes);
-                write!(f, "#{c}")
+                write!(f, " #{c}")
             }
         }
     }
