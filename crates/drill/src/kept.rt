@@ -1,6 +1,9 @@
 // What is kept from command to command, and what each command makes of it.
+ghost use Rattle.std.specs.Prelude.{◌≡◌};
+ghost use Rattle.drill.specs.Room.{Leaves, Same};
+
+use crate::buffer::Buffer;
 use crate::{altered, junk};
-use arrayvec::ArrayVec;
 use groups::Layout;
 use lines::figure::{Fraction, limit};
 use lines::notes;
@@ -17,15 +20,15 @@ use std::io::Write;
 pub struct Kept {
     layout: Layout,
     standing: Standing,
-    stripe: ArrayVec<u8, 49152>,
-    spare: ArrayVec<u8, 2048>,
+    stripe: Buffer<49152>,
+    spare: Buffer<2048>,
 }
 
 // The standing, the stripe and the spare, as they end a line.
 impl Display for Kept {
     fn fmt<W: fmt::Write>(&self, f: &mut Formatter<W>) -> fmt::Result {
         let held = Held(self);
-        let spare = Bytes(self.spare.as_slice());
+        let spare = Bytes(self.spare.part());
         write!(f, "{held}{spare}")
     }
 }
@@ -38,15 +41,9 @@ impl Display for Held<'_> {
     fn fmt<W: fmt::Write>(&self, f: &mut Formatter<W>) -> fmt::Result {
         let kept = self.0;
         let Standing { len, lost } = kept.standing;
-        let stripe = Bytes(kept.stripe.as_slice());
+        let stripe = Bytes(kept.stripe.part());
         write!(f, "{len} {lost}{stripe}")
     }
-}
-
-// A command's bytes take the place of those of a buffer; a command whose bytes do not fit is damaged.
-fn lay<const N: usize>(buf: &mut ArrayVec<u8, N>, bytes: &[u8]) {
-    buf.clear();
-    let _ = buf.try_extend_from_slice(bytes);
 }
 
 // What a call answers: 0, or its refusal's number.
@@ -56,29 +53,39 @@ fn number<T: Drop>(answer: Result<T, Refusal>) -> u8 {
 
 impl Kept {
     // What is kept at the start; the layout is the blank one.
-    pub fn new() -> Kept {
+    pub fn new() -> Kept
+        ensures { (result.stripe.used.number ≡ 0) × (result.spare.used.number ≡ 0) }
+    {
         Kept {
             layout: Layout::default(),
             standing: Standing { len: 1, lost: 0 },
-            stripe: ArrayVec::new(),
-            spare: ArrayVec::new(),
+            stripe: Buffer::new(),
+            spare: Buffer::new(),
         }
     }
 
     // The standing after a call, which is as it was where the call is refused, and the number of the answer.
-    fn stand(&mut self, answer: Result<Standing, Refusal>) -> u8 {
+    fn stand(&mut self, answer: Result<Standing, Refusal>) -> u8
+        ensures { Same self.old self.new }
+    {
         self.standing = answer.unwrap_or(self.standing);
         number(answer)
     }
 
-    fn encode<W: Write>(&mut self, to: &mut Output<W>) {
-        let r = stripe::encode_by(self.layout, self.standing, self.stripe.as_mut_slice());
+    fn encode<W: Write>(&mut self, to: &mut Output<W>)
+        ensures { Same self.old self.new }
+    {
+        let n = self.stripe.used.number;
+        let room = &mut self.stripe.bytes[..];
+        let r = stripe::encode_by(self.layout, self.standing, &mut room[..n]);
         let a = self.stand(r);
         let held = Held(self);
         to.print(format_args!("encode {a} {held}\n"));
     }
 
-    fn lose<W: Write>(&mut self, to: &mut Output<W>, b: usize) {
+    fn lose<W: Write>(&mut self, to: &mut Output<W>, b: usize)
+        ensures { Same self.old self.new }
+    {
         let a = self.stand(stripe::lose_by(self.layout, self.standing, b));
         let Standing { len, lost } = self.standing;
         to.print(format_args!("lose {b} {a} {len} {lost}\n"));
@@ -97,15 +104,23 @@ impl Kept {
         }
     }
 
-    fn repair<W: Write>(&mut self, to: &mut Output<W>, b: usize) {
-        let r = repairs::repair_by(self.layout, self.standing, self.stripe.as_mut_slice(), b);
+    fn repair<W: Write>(&mut self, to: &mut Output<W>, b: usize)
+        ensures { Same self.old self.new }
+    {
+        let n = self.stripe.used.number;
+        let room = &mut self.stripe.bytes[..];
+        let r = repairs::repair_by(self.layout, self.standing, &mut room[..n], b);
         let a = self.stand(r);
         let held = Held(self);
         to.print(format_args!("repair {b} {a} {held}\n"));
     }
 
-    fn rebuild<W: Write>(&mut self, to: &mut Output<W>) {
-        let r = repairs::rebuild_by(self.layout, self.standing, self.stripe.as_mut_slice());
+    fn rebuild<W: Write>(&mut self, to: &mut Output<W>)
+        ensures { Same self.old self.new }
+    {
+        let n = self.stripe.used.number;
+        let room = &mut self.stripe.bytes[..];
+        let r = repairs::rebuild_by(self.layout, self.standing, &mut room[..n]);
         self.standing = r.unwrap_or(self.standing);
         let held = Held(self);
         match r {
@@ -119,11 +134,15 @@ impl Kept {
         }
     }
 
-    fn correct<W: Write>(&mut self, to: &mut Output<W>, i: usize, off: usize, diff: &[u8]) {
+    fn correct<W: Write>(&mut self, to: &mut Output<W>, i: usize, off: usize, diff: &[u8])
+        ensures { Same self.old self.new }
+    {
+        let n = self.stripe.used.number;
+        let room = &mut self.stripe.bytes[..];
         let a = number(correct::correct_by(
             self.layout,
             self.standing,
-            self.stripe.as_mut_slice(),
+            &mut room[..n],
             i,
             off,
             diff,
@@ -132,12 +151,16 @@ impl Kept {
         to.print(format_args!("correct {i} {a} {held}\n"));
     }
 
-    fn fetch<W: Write>(&mut self, to: &mut Output<W>, b: usize) {
+    fn fetch<W: Write>(&mut self, to: &mut Output<W>, b: usize)
+        ensures { Same self.old self.new }
+    {
+        let n = self.spare.used.number;
+        let room = &mut self.spare.bytes[..];
         let a = number(stripe::fetch_by(
             self.layout,
             self.standing,
-            self.stripe.as_slice(),
-            self.spare.as_mut_slice(),
+            self.stripe.part(),
+            &mut room[..n],
             b,
         ));
         to.print(format_args!("fetch {b} {a} {self}\n"));
@@ -147,8 +170,8 @@ impl Kept {
         let part = Bytes(stripe::view_by(
             self.layout,
             self.standing,
-            self.stripe.as_slice(),
-            self.spare.as_slice(),
+            self.stripe.part(),
+            self.spare.part(),
             b,
         ));
         to.print(format_args!("view {b}{part} {self}\n"));
@@ -184,7 +207,9 @@ impl Kept {
     }
 
     // Does a command, and writes its line.
-    pub fn run<W: Write>(&mut self, to: &mut Output<W>, command: Command<'_>) {
+    pub fn run<W: Write>(&mut self, to: &mut Output<W>, command: Command<'_>)
+        ensures { Leaves command.entry self.old self.new }
+    {
         match command {
             Command::Note(bytes) => {
                 self.layout = notes::read(to, bytes, self.layout, b"note k ", b"note refused ");
@@ -198,18 +223,20 @@ impl Kept {
                 to.print(format_args!("standing {len} {lost}\n"));
             }
             Command::Stripe(bytes) => {
-                lay(&mut self.stripe, bytes);
-                let stripe = Bytes(self.stripe.as_slice());
+                self.stripe.lay(bytes);
+                let stripe = Bytes(self.stripe.part());
                 to.print(format_args!("stripe{stripe}\n"));
             }
             Command::Spare(bytes) => {
-                lay(&mut self.spare, bytes);
-                let spare = Bytes(self.spare.as_slice());
+                self.spare.lay(bytes);
+                let spare = Bytes(self.spare.part());
                 to.print(format_args!("spare{spare}\n"));
             }
             Command::Junk(x) => {
-                junk::spoil(self.stripe.as_mut_slice(), self.standing, x);
-                let stripe = Bytes(self.stripe.as_slice());
+                let n = self.stripe.used.number;
+                let room = &mut self.stripe.bytes[..];
+                junk::spoil(&mut room[..n], self.standing, x);
+                let stripe = Bytes(self.stripe.part());
                 to.print(format_args!("junk{stripe}\n"));
             }
             Command::Encode => self.encode(to),

@@ -20,6 +20,7 @@
 #![tactic(auto)]
 
 mod altered;
+mod buffer;
 mod junk;
 mod kept;
 
