@@ -52,14 +52,11 @@ impl From<Result<Layout, Refused>> for NoteSaid {
                 offset: 0,
                 layout,
             },
-            Err(e) => {
-                let said = Reading::refused(e.fault.number(), e.offset);
-                NoteSaid {
-                    number: said.number,
-                    offset: said.offset,
-                    layout: said.layout,
-                }
-            }
+            Err(e) => NoteSaid {
+                number: e.fault.number(),
+                offset: e.offset,
+                layout: Reading::refused(e.fault.number(), e.offset).layout,
+            },
         }
     }
 }

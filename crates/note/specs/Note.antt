@@ -145,7 +145,7 @@ abbrev pub outcome : Result Layout Refused → Outcome
 outcome (Ok l) = layout l
 outcome (Err e) = refusal (number e.fault) e.offset
 
--- the reading of each outcome in numbers: 0 with the layout, or document 01's number and offset, with the blank layout
+-- the reading of each outcome: accepted, with the layout; or document 01's number and offset, with the blank layout
 abbrev pub reading : Outcome → Reading
-reading (layout l) = record { number = 0; offset = 0; layout = l }
-reading (refusal number offset) = record { number = number; offset = offset; layout = blank }
+reading (layout l) = record { answer = Ok tt; layout = l }
+reading (refusal number offset) = record { answer = Err (number, offset); layout = blank }

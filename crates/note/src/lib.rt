@@ -17,11 +17,11 @@ pub struct Refused {
     pub offset: usize,
 }
 
-// What reading a note says in numbers: 0 and the layout; or the refusal's number, the offset of the record at fault, and the blank layout.
+// What reading a note says in numbers: accepted, or refused by a number, with the offset of the record at fault; and the layout, of a refused note the
+// blank one.
 #[derive(Clone, Copy)]
 pub struct Reading {
-    pub number: u8,
-    pub offset: usize,
+    pub answer: Result<(), (u8, usize)>,
     pub layout: Layout,
 }
 
@@ -31,8 +31,7 @@ impl Reading {
         ensures { result ≡ reading (refusal number offset) }
     {
         Reading {
-            number,
-            offset,
+            answer: Err((number, offset)),
             layout: groups::empty(),
         }
     }
