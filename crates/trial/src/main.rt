@@ -147,35 +147,34 @@ fn ask_about<W: Write>(to: &mut Output<W>, letter: u8, bytes: &[u8], l: Layout) 
     }
 }
 
-// Asks with the bytes of a line, and answers the layout to go on with.
-fn ask_with<W: Write>(to: &mut Output<W>, letter: u8, line: &[u8], l: Layout) -> Layout {
+// Asks with the bytes of a line. A note that is accepted changes the layout.
+fn ask_with<W: Write>(to: &mut Output<W>, letter: u8, line: &[u8], l: &mut Layout) {
     let mut space = [0; 128];
     let bytes = parse(line, &mut space);
     if letter == b'N' {
-        return notes::read(to, bytes, l, b"accepted k ", b"refused ");
+        *l = notes::read(to, bytes, *l, b"accepted k ", b"refused ");
+    } else {
+        ask_about(to, letter, bytes, *l);
     }
-    ask_about(to, letter, bytes, l);
-    l
 }
 
-// A line's answer, and the layout to go on with.
-fn ask<W: Write>(to: &mut Output<W>, line: &[u8], l: Layout) -> Layout {
+// A line's answer; an empty line has none.
+fn ask<W: Write>(to: &mut Output<W>, line: &[u8], l: &mut Layout) {
     match line.first() {
-        None => l,
+        None => {}
         Some(b'#') => {
             to.text(line);
             to.text(b"\n");
-            l
         }
         Some(letter) => ask_with(to, *letter, line, l),
     }
 }
 
-// Asks line after line; a last line that is not ended by a newline is asked too.
+// Asks line after line; a last line that is not ended by a newline is asked too. Behind one that is stands an empty line.
 fn each<W: Write>(to: &mut Output<W>, s: &[u8]) {
     let mut l = Layout::default();
-    for line in s.chunk_by(|before, _| *before != b'\n') {
-        l = ask(to, line.strip_suffix(b"\n").unwrap_or(line), l);
+    for line in s.split(|c| *c == b'\n') {
+        ask(to, line, &mut l);
     }
 }
 
