@@ -4,10 +4,24 @@
 pub mod encoding;
 
 ghost use Rattle.std.specs.Prelude.{◌≡◌, ◌+◌, ◌<◌, ◌≤◌, length};
-ghost use Rattle.pieces.specs.Pieces.{Sources, Combined, Makeable, Gathered, Made};
+ghost use Rattle.pieces.specs.Pieces.{Sources, Added, Combined, Makeable, Gathered, Made};
+
+// Adds block s times its coefficient. A block whose coefficient is zero is passed over, so that a lost block's bytes are never read.
+fn add_block(acc: &mut [u8], stripe: &[u8], coef: &[u8], len: usize, from: usize, s: usize)
+    requires sources { Sources stripe.now coef.now len }
+    requires acc_bound { from + length acc.old ≤ len }
+    requires s_in_bounds { s < length coef.now }
+    ensures { Added coef.now stripe.now len from s acc.old acc.new }
+{
+    let c = coef[s];
+    if c == 0 {
+        return;
+    }
+    let at = s * len + from;
+    field::scaled_add(acc, &stripe[at..at + acc.len()], c);
+}
 
 // Adds coefficient times block for every block, at the positions from `from` on. The start makes room for blocks that come in pieces.
-// A block whose coefficient is zero is passed over, so that a lost block's bytes are never read.
 // Stays: blocks by number. chunks_exact asks a length that is not 0, and this takes 0 too.
 // Stays: stripe, coef and len are no struct of three, here and in `gather`: `make` writes the stripe that the struct would hold lent.
 pub fn combine(acc: &mut [u8], stripe: &[u8], coef: &[u8], len: usize, from: usize)
@@ -15,12 +29,8 @@ pub fn combine(acc: &mut [u8], stripe: &[u8], coef: &[u8], len: usize, from: usi
     requires acc_bound { from + length acc.old ≤ len }
     ensures { Combined coef.now stripe.now len from (length coef.now) acc.old acc.new }
 {
-    for (s, &c) in coef.iter().enumerate() {
-        if c == 0 {
-            continue;
-        }
-        let at = s * len + from;
-        field::scaled_add(acc, &stripe[at..at + acc.len()], c);
+    for s in 0..coef.len() {
+        add_block(acc, stripe, coef, len, from, s);
     }
 }
 
